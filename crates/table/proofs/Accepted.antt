@@ -1,0 +1,34 @@
+-- What the numbers of `Numbers` say where they are 0: the table is well-formed. Assumes nothing.
+use Prim.Native.Nat.{ℕ}
+use mathlib.Core.Path.{_≡_}
+use mathlib.Core.List.{List}
+use native.Mathlib.Omega.{arith}
+use Rattle.table.specs.Verdict.{Verdict}
+use Rattle.table.specs.Table.{WellFormed, Counted}
+use Rattle.table.specs.Numbers.{tableDemands, countedDemands}
+use Rattle.table.proofs.VerdictLaws.{Numbered, AllMet, accepted}
+
+-- 0 of `tableDemands`: 1 to 5 are met
+pub table-met : (starts targets : List ℕ) → Verdict (tableDemands starts targets) 0 → AllMet (tableDemands starts targets)
+table-met starts targets v =
+    accepted (tableDemands starts targets)
+    ((λ e. omega arith), ((λ e. omega arith), ((λ e. omega arith), ((λ e. omega arith), ((λ e. omega arith), tt))))) v
+
+-- 0 of `countedDemands`: 1 to 7 are met
+pub counted-met : (starts targets counts : List ℕ) → Verdict (countedDemands starts targets counts) 0 → AllMet (countedDemands starts targets counts)
+counted-met starts targets counts v =
+    accepted (countedDemands starts targets counts)
+    ((λ e. omega arith), ((λ e. omega arith), ((λ e. omega arith), ((λ e. omega arith), ((λ e. omega arith), ((λ e. omega arith), ((λ e. omega arith), tt))))))) v
+
+-- starts and targets that are given 0 are well-formed
+pub well-formed : (starts targets : List ℕ) → Verdict (tableDemands starts targets) 0 → WellFormed starts targets
+well-formed starts targets v =
+    let met = table-met starts targets v in
+    record {
+      some = met .0 .0;
+      most-vertices = met .0 .1;
+      most-edges = met .1 .0;
+      starts-fit = met .1 .1 .0;
+      targets-below = met .1 .1 .1 .0;
+      rows-rise = met .1 .1 .1 .1 .0;
+    }

@@ -1,0 +1,4 @@
+pub mod Accepted
+pub mod RowLaws
+pub mod SumLaws
+pub mod VerdictLaws

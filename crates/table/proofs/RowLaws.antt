@@ -1,0 +1,27 @@
+-- Laws of rows: where starts fit, each vertex's row lies within the targets. Assumes nothing.
+use Prim.Native.Nat.{ℕ, zero, suc, _+_, _-_, _≤_, _<_}
+use mathlib.Core.Path.{_≡_}
+use mathlib.Core.List.{List}
+use native.Mathlib.Nat.{le-refl, le-trans}
+use native.Mathlib.Numerals.{add-one}
+use native.Mathlib.Omega.{arith}
+use lib.ListN.{length, getD}
+use Rattle.table.specs.Table.{vertices, row, RowLies, StartsFit}
+
+-- starts that never fall rise from v over any number of steps
+climb : (starts : List ℕ) (m : ℕ) → StartsFit starts m → (v steps : ℕ) → v + steps < length starts → getD starts v 0 ≤ getD starts (v + steps) 0
+climb starts m fit v zero h = rw (native.Mathlib.Nat.add-zero v) (le-refl _)
+climb starts m fit v (suc k) h =
+    let here : v + suc k ≡ (v + k) + 1 = omega arith in
+    rw here (le-trans (climb starts m fit v k (omega arith)) (fit .climbs (v + k) (omega arith)))
+
+-- the row of each vertex lies within the targets
+pub row-lies : (starts targets : List ℕ) → StartsFit starts (length targets) → (v : ℕ) → v < vertices starts → RowLies starts targets v
+row-lies starts targets fit v h =
+    let last : (v + 1) + (length starts - 1 - (v + 1)) ≡ length starts - 1 = omega arith in
+    let up = climb starts (length targets) fit (v + 1) (length starts - 1 - (v + 1)) (omega arith) in
+    record {
+      vertex = omega arith;
+      ordered = fit .climbs v (omega arith);
+      within = rw (← fit .ends) (rw last at up);
+    }

@@ -1,0 +1,53 @@
+-- Laws of `Says` and `Verdict`: a test's answer as a fact, and that the number given is determined. Assumes nothing.
+use Prim.Native.Nat.{ℕ}
+use mathlib.Core.Path.{_≡_, refl, sym, _∙_}
+use mathlib.Core.Logic.{_⊎_, inl, inr}
+use mathlib.Core.List.{List, [], _∷_, _++_}
+use mathlib.Core.Bool.{Bool, true, false, not}
+use native.Mathlib.Omega.{arith}
+use Rattle.table.specs.Verdict.{Demand, Verdict, Says}
+
+-- a test that was answered with no
+pub says-no : (P : Type 0) (b : Bool) → Says b P → not b ≡ true → P → ⊥
+says-no P true s e p = let z : _≡_ {A = ℕ} 0 1 = cc in omega arith
+says-no P false s e p = s p
+
+-- a test that was answered with yes
+pub says-yes : (P : Type 0) (b : Bool) → Says b P → not b ≡ false → P
+says-yes P true s e = s
+says-yes P false s e = let z : _≡_ {A = ℕ} 0 1 = cc in absurd (let no : ⊥ = omega arith in no)
+
+-- the number given is determined
+pub verdict-unique : (demands : List Demand) (r r′ : ℕ) → Verdict demands r → Verdict demands r′ → r ≡ r′
+verdict-unique [] r r′ v v′ = v ∙ sym v′
+verdict-unique (d ∷ rest) r r′ (inl v) (inl v′) = v .1 ∙ sym (v′ .1)
+verdict-unique (d ∷ rest) r r′ (inl v) (inr v′) = absurd (v .0 (v′ .0))
+verdict-unique (d ∷ rest) r r′ (inr v) (inl v′) = absurd (v′ .0 (v .0))
+verdict-unique (d ∷ rest) r r′ (inr v) (inr v′) = verdict-unique rest r r′ (v .1) (v′ .1)
+
+-- no demand of the list has the number 0, which says that all are met
+abbrev pub Numbered : List Demand → Type 0
+Numbered [] = Unit {0}
+Numbered (d ∷ rest) = (d .number ≡ 0 → ⊥) × Numbered rest
+
+-- each demand of the list is met
+abbrev pub AllMet : List Demand → Type 0
+AllMet [] = Unit {0}
+AllMet (d ∷ rest) = d .met × AllMet rest
+
+-- the number 0 says that each demand is met
+pub accepted : (demands : List Demand) → Numbered demands → Verdict demands 0 → AllMet demands
+accepted [] n v = tt
+accepted (d ∷ rest) n (inl v) = absurd (n .0 (sym (v .1)))
+accepted (d ∷ rest) n (inr v) = (v .0, accepted rest (n .1) (v .1))
+
+-- where the first demands are met, the number is that of the rest
+pub goes-on : (first rest : List Demand) (r : ℕ) → AllMet first → Verdict rest r → Verdict (first ++ rest) r
+goes-on [] rest r met v = v
+goes-on (d ∷ first) rest r met v = inr (met .0, goes-on first rest r (met .1) v)
+
+-- where one of the first demands is not met, the rest is not looked at
+pub stops : (first rest : List Demand) (r : ℕ) → (r ≡ 0 → ⊥) → Verdict first r → Verdict (first ++ rest) r
+stops [] rest r refused v = absurd (refused v)
+stops (d ∷ first) rest r refused (inl v) = inl v
+stops (d ∷ first) rest r refused (inr v) = inr (v .0, stops first rest r refused (v .1))

@@ -1,0 +1,20 @@
+// The counts' exact sum against its limit.
+ghost use Prim.Native.Nat.{_≤_};
+ghost use Rattle.table.specs.Verdict.{Says};
+ghost use Rattle.table.specs.Table.{countSum};
+
+// Whether the exact sum of the counts is at most 1,099,511,627,775. A count may be any 64-bit number.
+pub fn sum_fits(counts: &[u64]) -> bool
+    ensures { λ r. ⌜ Says r (countSum (now (counts .entry)) ≤ 1099511627775) ⌝ }
+{
+    let mut left: u64 = 1_099_511_627_775;
+    let mut v = 0;
+    while v < counts.len() {
+        if counts[v] > left {
+            return false;
+        }
+        left -= counts[v];
+        v += 1;
+    }
+    true
+}
