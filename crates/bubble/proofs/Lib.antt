@@ -6,3 +6,7 @@ pub mod FromOrder
 pub mod Pairs
 pub mod Unique
 pub mod Nesting
+pub mod Pigeonhole
+pub mod Number
+pub mod LoneEdge
+pub mod Ring

@@ -21,8 +21,8 @@ pub interior-decided : {E : ℕ → ℕ → Type 0} {s t v : ℕ} → Dec (F E s
 interior-decided (no n) = no (λ i. n (i .inside))
 interior-decided {s = s} {t = t} {v = v} (yes f) =
     elim (ℕ-discrete v s) [
-      yes q ↦ no (λ i. i .not-entrance q)
-    | no n ↦ elim (ℕ-discrete v t) [ yes q ↦ no (λ i. i .not-exit q) | no m ↦ yes (record { inside = f; not-entrance = n; not-exit = m }) ]
+      | yes q ↦ no (λ i. i .not-entrance q)
+      | no n ↦ elim (ℕ-discrete v t) [ yes q ↦ no (λ i. i .not-exit q) | no m ↦ yes (record { inside = f; not-entrance = n; not-exit = m }) ]
     ]
 
 module _ {E : ℕ → ℕ → Type 0} {s t x y : ℕ} where
@@ -32,18 +32,20 @@ module _ {E : ℕ → ℕ → Type 0} {s t x y : ℕ} where
       record {
         inside = along f;
         not-entrance = λ e. no-entrance (rw e at f);
-        not-exit = λ e. no-exit (rw e at f)
+        not-exit = λ e. no-exit (rw e at f);
       }
     where
       no-exit : F E s t y → ⊥
       no-exit g =
           elim (ℕ-discrete y t) [
-            yes e ↦ i .not-entrance (entrance-unique (rw (← e) at p) q)
-          | no n ↦ p .minimality y g n (cross (p .bubbloid) (q .bubbloid) (i .inside) g (i .not-exit))
+            | yes e ↦ i .not-entrance (entrance-unique (rw (← e) at p) q)
+            | no n ↦ p .minimality y g n (cross (p .bubbloid) (q .bubbloid) (i .inside) g (i .not-exit))
           ]
+
       along : {v : ℕ} → F E s t v → F E x y v
       along start = i .inside
       along (on g n e) = on (along g) (λ k. no-exit (rw k at g)) e
+
       no-entrance : F E s t x → ⊥
       no-entrance g = let (u, h, n, e) = last-edge g (λ k. i .not-entrance (sym k)) in no-edge-to-entrance (q .bubbloid) (along h) e
 
@@ -53,8 +55,8 @@ module _ {E : ℕ → ℕ → Type 0} {s t x y : ℕ} where
   passes b i (on {u = u} g n e) =
       let h : F E s t u = closed-backward b (i .inside) (i .not-entrance) e in
       elim (ℕ-discrete u s) [
-        yes q ↦ inl (rw q at g, rw q at n)
-      | no k ↦ passes b (record { inside = h; not-entrance = k; not-exit = λ q. no-edge-from-exit b (i .inside) (rw q at e) }) g
+        | yes q ↦ inl (rw q at g, rw q at n)
+        | no k ↦ passes b (record { inside = h; not-entrance = k; not-exit = λ q. no-edge-from-exit b (i .inside) (rw q at e) }) g
       ]
 
 module _ {E : ℕ → ℕ → Type 0} {s t x y : ℕ} (p : Superbubble E s t) (q : Superbubble E x y) (different : s ≢ x) where
@@ -62,9 +64,9 @@ module _ {E : ℕ → ℕ → Type 0} {s t x y : ℕ} (p : Superbubble E s t) (q
   pub meets : {v : ℕ} → Interior E s t v → F E x y v → Interior E x y s ⊎ Interior E s t x
   meets i f =
       ⊎-map
-        (λ h. record { inside = h .0; not-entrance = different; not-exit = h .1 })
-        (λ h. record { inside = h .0; not-entrance = λ e. different (sym e); not-exit = h .1 })
-        (passes (p .bubbloid) i f)
+      (λ h. record { inside = h .0; not-entrance = different; not-exit = h .1 })
+      (λ h. record { inside = h .0; not-entrance = λ e. different (sym e); not-exit = h .1 })
+      (passes (p .bubbloid) i f)
 
   -- of two different superbubbles with a vertex interior to one and in the other, one lies in the interior of the other
   pub meets-nested : {v : ℕ} → Interior E s t v → F E x y v → Nested E s t x y ⊎ Nested E x y s t
@@ -72,13 +74,13 @@ module _ {E : ℕ → ℕ → Type 0} {s t x y : ℕ} (p : Superbubble E s t) (q
 
 -- two different superbubbles are nested one way, or the other, or apart; only whether each entrance lies in the other's U has to be known
 pub nested-or-apart : {E : ℕ → ℕ → Type 0} {s t x y : ℕ} → Superbubble E s t → Superbubble E x y → s ≢ x → Dec (F E x y s) → Dec (F E s t x)
-  → Nested E s t x y ⊎ Nested E x y s t ⊎ (Apart E s t x y × Apart E x y s t)
+    → Nested E s t x y ⊎ Nested E x y s t ⊎ (Apart E s t x y × Apart E x y s t)
 nested-or-apart {E} {s} {t} {x} {y} p q n c d =
     elim (interior-decided c) [
-      yes i ↦ inl (nest p q i)
-    | no h ↦
-      elim (interior-decided d) [
-        yes j ↦ inr (inl (nest q p j))
-      | no k ↦ inr (inr (λ v i f. ⊎-elim h k (meets p q n i f), λ v i f. ⊎-elim k h (meets q p (λ e. n (sym e)) i f)))
-      ]
+      | yes i ↦ inl (nest p q i)
+      | no h ↦
+          elim (interior-decided d) [
+            | yes j ↦ inr (inl (nest q p j))
+            | no k ↦ inr (inr (λ v i f. ⊎-elim h k (meets p q n i f), λ v i f. ⊎-elim k h (meets q p (λ e. n (sym e)) i f)))
+          ]
     ]

@@ -27,7 +27,7 @@ turned p =
     let b = p .bubbloid in
     record {
       bubbloid = bubbloid-reversed .0 b;
-      minimality = λ x f n c. minimality-either b .0 (p .minimality) x (inside-reversed b .1 f) n (bubbloid-reversed .1 c)
+      minimality = λ x f n c. minimality-either b .0 (p .minimality) x (inside-reversed b .1 f) n (bubbloid-reversed .1 c);
     }
 
 pub superbubble-reversed : {E : ℕ → ℕ → Type 0} {s t : ℕ} → Superbubble E s t ↔ Superbubble (rev E) t s
@@ -36,10 +36,10 @@ superbubble-reversed = (turned, turned)
 pub exit-unique : {E : ℕ → ℕ → Type 0} {s t t′ : ℕ} → Superbubble E s t → Superbubble E s t′ → t ≡ t′
 exit-unique {E} {s} {t} {t′} p q =
     elim (ℕ-discrete t t′) [
-      yes e ↦ e
-    | no n ↦
-      let outside : F E s t′ t → ⊥ = λ f. q .minimality t f n (p .bubbloid) in
-      absurd (p .minimality t′ (F-within outside (exit-inside (q .bubbloid))) (λ e. n (sym e)) (q .bubbloid))
+      | yes e ↦ e
+      | no n ↦
+          let outside : F E s t′ t → ⊥ = λ f. q .minimality t f n (p .bubbloid) in
+          absurd (p .minimality t′ (F-within outside (exit-inside (q .bubbloid))) (λ e. n (sym e)) (q .bubbloid))
     ]
 
 pub entrance-unique : {E : ℕ → ℕ → Type 0} {s s′ t : ℕ} → Superbubble E s t → Superbubble E s′ t → s ≡ s′
