@@ -10,3 +10,6 @@ pub mod Pigeonhole
 pub mod Number
 pub mod LoneEdge
 pub mod Ring
+pub mod Reflect
+pub mod Closure
+pub mod Decide

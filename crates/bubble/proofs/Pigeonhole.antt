@@ -2,8 +2,8 @@
 -- Assumes nothing.
 use Prim.Native.Nat.{ℕ, zero, suc, _≤_, _<_}
 use mathlib.Core.Path.{_≡_, refl, sym, _∙_, ap}
-use mathlib.Core.Logic.{_≢_}
-use mathlib.Core.List.{List, [], _∷_, map, List·Memᴰ, List·Memᴰ·head, List·Memᴰ·tail, Memᴰ·cast, Memᴰ·of-map}
+use mathlib.Core.Logic.{_≢_, ⊎-elim}
+use mathlib.Core.List.{List, [], _∷_, _++_, map, List·Memᴰ, List·Memᴰ·head, List·Memᴰ·tail, List·Memᴰ·append-cases, Memᴰ·cast, Memᴰ·of-map}
 use native.Mathlib.Nat.{lt-irrefl}
 use native.Mathlib.Omega.{arith}
 use native.Mathlib.Decide.{ℕ-discrete}
@@ -62,6 +62,11 @@ module _ {A : Type 0} where
 -- pairwise different numbers below n are at most n
 pub distinct-below : {l : List ℕ} (n : ℕ) → Distinct l → ((v : ℕ) → List·Memᴰ v l → v < n) → length l ≤ n
 distinct-below n d h = omega (arith, length-upto n, distinct-within (upto n) d (λ v m. in-upto n (h v m)))
+
+pub distinct-append : {A : Type 0} {l k : List A} → Distinct l → Distinct k → ((a : A) → List·Memᴰ a l → List·Memᴰ a k → ⊥) → Distinct (l ++ k)
+distinct-append empty e h = e
+distinct-append (fresh {a = a} {l = l} n d) e h =
+    fresh (λ m. ⊎-elim n (h a (List·Memᴰ·head refl)) (List·Memᴰ·append-cases l m)) (distinct-append d e (λ b i. h b (List·Memᴰ·tail i)))
 
 -- a function that keeps the entries apart keeps a list distinct
 pub distinct-map : {A B : Type 0} {l : List A} (f : A → B) → Distinct l → ((a b : A) → List·Memᴰ a l → List·Memᴰ b l → f a ≡ f b → a ≡ b) → Distinct (map f l)
