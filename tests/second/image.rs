@@ -1,0 +1,138 @@
+//! The house image of document 01: its layout, the numbers that reading it earns, and the text that
+//! the program `show` prints for it.
+
+use crate::table::{number_given, Table, MOST_EDGES, MOST_VERTICES};
+
+pub const HEADER: usize = 13;
+pub const LARGEST: usize = 57_361;
+
+/// How long the output slices are that reading is lent.
+#[derive(Clone, Copy)]
+pub struct Room {
+    pub starts: usize,
+    pub targets: usize,
+    pub counts: usize,
+}
+
+/// The length of an image of n vertices and m edges.
+pub fn length(n: u64, m: u64) -> u64 {
+    HEADER as u64 + 4 * (n + 1) + 4 * m + 8 * n
+}
+
+/// The three slices laid out as an image, whether well-formed or not.
+pub fn of_table(table: &Table) -> Vec<u8> {
+    let n = (table.starts.len() as u32).wrapping_sub(1);
+    let mut image = b"SBT\x01\x00".to_vec();
+    image.extend(n.to_le_bytes());
+    image.extend((table.targets.len() as u32).to_le_bytes());
+    append_table(&mut image, table);
+    image
+}
+
+/// Starts, targets and counts, one after the other, little-endian.
+pub fn append_table(bytes: &mut Vec<u8>, table: &Table) {
+    for start in &table.starts {
+        bytes.extend(start.to_le_bytes());
+    }
+    for target in &table.targets {
+        bytes.extend(target.to_le_bytes());
+    }
+    for count in &table.counts {
+        bytes.extend(count.to_le_bytes());
+    }
+}
+
+/// What the header of a stream of at least 13 bytes says.
+struct Header {
+    version: u16,
+    n: u32,
+    m: u32,
+}
+
+fn header(stream: &[u8]) -> Header {
+    Header {
+        version: u16::from_le_bytes([stream[3], stream[4]]),
+        n: u32_at(stream, 5),
+        m: u32_at(stream, 9),
+    }
+}
+
+fn u32_at(bytes: &[u8], place: usize) -> u32 {
+    u32::from_le_bytes(bytes[place..place + 4].try_into().unwrap())
+}
+
+fn u64_at(bytes: &[u8], place: usize) -> u64 {
+    u64::from_le_bytes(bytes[place..place + 8].try_into().unwrap())
+}
+
+/// The table in a stream that is at least as long as its header says.
+pub fn table_in(stream: &[u8]) -> Table {
+    let Header { n, m, .. } = header(stream);
+    let (n, m) = (n as usize, m as usize);
+    let starts = HEADER;
+    let targets = starts + 4 * (n + 1);
+    let counts = targets + 4 * m;
+    Table {
+        starts: (0..=n).map(|v| u32_at(stream, starts + 4 * v)).collect(),
+        targets: (0..m).map(|e| u32_at(stream, targets + 4 * e)).collect(),
+        counts: (0..n).map(|v| u64_at(stream, counts + 8 * v)).collect(),
+    }
+}
+
+/// The numbers whose condition holds when this stream is read, in the order in which they are given:
+/// 10, 11, 1, 2, 12, 3, 4, 5, 7, 8. A fault of the table counts where all of the table is there.
+pub fn faults_of_reading(stream: &[u8], room: Option<Room>) -> Vec<u32> {
+    if stream.len() < HEADER {
+        return vec![10];
+    }
+    let Header { version, n, m } = header(stream);
+    let due = length(n as u64, m as u64);
+    let mut faults = Vec::new();
+    if &stream[..3] != b"SBT" {
+        faults.push(10);
+    }
+    if version != 1 {
+        faults.push(11);
+    }
+    if n as usize > MOST_VERTICES {
+        faults.push(1);
+    }
+    if m as usize > MOST_EDGES {
+        faults.push(2);
+    }
+    if stream.len() as u64 != due {
+        faults.push(12);
+    }
+    if stream.len() as u64 >= due {
+        let table = table_in(stream).faults();
+        faults.extend(table.iter().filter(|&&number| [3, 4, 5, 7].contains(&number)));
+    }
+    if room.is_some_and(|room| room.is_below(n as usize, m as usize)) {
+        faults.push(8);
+    }
+    faults
+}
+
+impl Room {
+    fn is_below(self, n: usize, m: usize) -> bool {
+        self.starts < n + 1 || self.targets < m || self.counts < n
+    }
+}
+
+/// What `show` prints for a stream.
+pub fn text(stream: &[u8]) -> String {
+    let number = number_given(&faults_of_reading(stream, None));
+    if number != 0 {
+        return format!("refused {number}\n");
+    }
+    let table = table_in(stream);
+    let mut text = format!("table {} {}\n", table.counts.len(), table.targets.len());
+    for (vertex, count) in table.counts.iter().enumerate() {
+        text += &format!("{vertex} {count}");
+        for successor in table.row(vertex) {
+            text += &format!(" {successor}");
+        }
+        text += "\n";
+    }
+    text
+}
