@@ -1,10 +1,10 @@
 -- From a set to a bubbloid: a set that is closed but at its two ends, and has no cycle, is the set of one.
 -- Assumes nothing.
 use Prim.Native.Nat.{ℕ}
-use mathlib.Core.Path.{_≡_}
 use mathlib.Core.Logic.{_≢_, _↔_}
 use Rattle.bubble.specs.Superbubble.{F, F.start, F.on, B, B.end, B.from, Walk, Bubbloid}
-use Rattle.bubble.proofs.Walks.{walk-widen, B-reaches}
+use Rattle.bubble.proofs.Walks.{walk-widen}
+use Rattle.bubble.proofs.Reversal.{B-reaches}
 
 -- F within B, B within F and no cycle make a bubbloid: reachability follows from matching
 pub make : {E : ℕ → ℕ → Type 0} {s t : ℕ} → s ≢ t → ((v : ℕ) → F E s t v → B E s t v) → ((v : ℕ) → B E s t v → F E s t v) → ((v : ℕ) → Walk E (F E s t) v v → ⊥) → Bubbloid E s t

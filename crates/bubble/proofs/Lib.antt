@@ -13,3 +13,4 @@ pub mod Ring
 pub mod Reflect
 pub mod Closure
 pub mod Decide
+pub mod Enumerate

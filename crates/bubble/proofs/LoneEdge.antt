@@ -3,8 +3,7 @@
 use Prim.Native.Nat.{ℕ}
 use mathlib.Core.Path.{_≡_, refl, sym}
 use mathlib.Core.Logic.{_≢_, _↔_, _⊎_, inl, inr, ⊎-elim}
-use Rattle.bubble.specs.Superbubble.{F, F.start, F.on, B, B.end, B.from, Walk, Walk.edge, Walk.more, Superbubble}
-use Rattle.bubble.proofs.Walks.{walk-end}
+use Rattle.bubble.specs.Superbubble.{F, F.start, F.on, B.end, B.from, Walk, Walk.edge, Walk.more, Superbubble}
 use Rattle.bubble.proofs.FromSet.{Enclosed, enclosed-set, enclosed-bubbloid}
 
 pub record Lone (E : ℕ → ℕ → Type 0) (s t : ℕ) : Type 0 where
@@ -29,15 +28,15 @@ module _ {E : ℕ → ℕ → Type 0} {s t : ℕ} (c : Lone E s t) where
 
   lone-enclosed : Enclosed E Either s t
   lone-enclosed = record {
-      distinct = c .distinct;
-      entrance = inl refl;
-      exit = inr refl;
-      forward = λ {u} {v} p n e. inr (c .only-out v (rw (⊎-elim (λ q. q) (λ q. absurd (n q)) p) at e));
-      backward = λ {u} {v} p n e. inl (c .only-in u (rw (⊎-elim (λ q. absurd (n q)) (λ q. q) p) at e));
-      reached = λ v p. ⊎-elim (λ q. rw q start) (λ q. rw q (on start (c .distinct) (c .joined))) p;
-      reaching = λ v p. ⊎-elim (λ q. rw q (from (c .joined) (λ r. c .distinct (sym r)) end)) (λ q. rw q end) p;
-      acyclic = λ v w. let (p, q) = walk-from-entrance w in c .distinct (rw p at q)
-    }
+    distinct = c .distinct;
+    entrance = inl refl;
+    exit = inr refl;
+    forward = λ {u} {v} p n e. inr (c .only-out v (rw (⊎-elim (λ q. q) (λ q. absurd (n q)) p) at e));
+    backward = λ {u} {v} p n e. inl (c .only-in u (rw (⊎-elim (λ q. absurd (n q)) (λ q. q) p) at e));
+    reached = λ v p. ⊎-elim (λ q. rw q start) (λ q. rw q (on start (c .distinct) (c .joined))) p;
+    reaching = λ v p. ⊎-elim (λ q. rw q (from (c .joined) (λ r. c .distinct (sym r)) end)) (λ q. rw q end) p;
+    acyclic = λ v w. let (p, q) = walk-from-entrance w in c .distinct (rw p at q);
+  }
 
   pub lone-set : {v : ℕ} → F E s t v ↔ ((v ≡ s) ⊎ (v ≡ t))
   lone-set = enclosed-set lone-enclosed

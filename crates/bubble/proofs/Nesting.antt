@@ -1,7 +1,7 @@
 -- Two superbubbles are nested or apart, in any graph.
 -- Assumes nothing.
 use Prim.Native.Nat.{ℕ}
-use mathlib.Core.Path.{_≡_, sym}
+use mathlib.Core.Path.{sym}
 use mathlib.Core.Logic.{_≢_, _⊎_, inl, inr, ⊎-elim, ⊎-map}
 use native.Mathlib.Decide.{ℕ-discrete}
 use Rattle.bubble.specs.Superbubble.{F, F.start, F.on, Bubbloid, Superbubble, Interior}

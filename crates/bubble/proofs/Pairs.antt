@@ -1,12 +1,12 @@
 -- When two vertices of known bubbloids form a bubbloid themselves.
 -- Assumes nothing.
 use Prim.Native.Nat.{ℕ}
-use mathlib.Core.Path.{_≡_, sym}
+use mathlib.Core.Path.{sym}
 use mathlib.Core.Logic.{_≢_, _↔_}
 use native.Mathlib.Decide.{ℕ-discrete}
 use Rattle.bubble.specs.Superbubble.{F, F.start, F.on, B, B.end, B.from, Bubbloid, Interior}
 use Rattle.bubble.proofs.Walks.{walk-widen, F-no-return, F-onward, F-within}
-use Rattle.bubble.proofs.Reversal.{rev, F-reversed, B-reversed, B-no-return, B-onward, inside-reversed, bubbloid-reversed}
+use Rattle.bubble.proofs.Reversal.{F-reversed, B-reversed, B-no-return, B-onward, inside-reversed, bubbloid-reversed}
 use Rattle.bubble.proofs.Facts.{last-edge, first-edge, exit-inside, closed-backward, no-edge-to-entrance, no-edge-from-exit}
 use Rattle.bubble.proofs.FromSet.{make}
 
@@ -39,7 +39,7 @@ module _ {E : ℕ → ℕ → Type 0} {s t m : ℕ} (b : Bubbloid E s t) (inside
         (λ v w. b .acyclicity v (walk-widen (λ x. F-within h) w)),
   )
 
--- U cut at an entrance in its middle: the front is a bubbloid if the rest is
+-- of bubbloids s, t and m, t with m in U, the front s, m is one
 pub front-pair : {E : ℕ → ℕ → Type 0} {s t m : ℕ} → Bubbloid E s t → Bubbloid E m t → F E s t m → m ≢ s → Bubbloid E s m
 front-pair {E} {s} {t} {m} b c f n = cut b f n (c .distinct) .1 (λ g. outside g (λ q. c .distinct (sym q)) (exit-inside c))
   where
@@ -47,11 +47,11 @@ front-pair {E} {s} {t} {m} b c f n = cut b f n (c .distinct) .1 (λ g. outside g
     outside start k g = let (u, h, l, e) = last-edge g k in no-edge-to-entrance b (F-onward f h) e
     outside (on h l e) k g = outside h l (closed-backward c g k e)
 
--- U cut at an exit in its middle: the rest is a bubbloid if the front is
+-- of bubbloids s, t and s, m with m in U, the rest m, t is one
 pub rest-pair : {E : ℕ → ℕ → Type 0} {s t m : ℕ} → Bubbloid E s t → Bubbloid E s m → F E s t m → m ≢ t → Bubbloid E m t
 rest-pair b c f n = bubbloid-reversed .1 (front-pair (bubbloid-reversed .0 b) (bubbloid-reversed .0 c) (inside-reversed b .0 f) n)
 
--- the half of `cross` that turns round into the other
+-- one half of `cross`; the other is this in the graph turned round
 cross-forward : {E : ℕ → ℕ → Type 0} {s x y v : ℕ} → Bubbloid E x y → F E x y s → F E s y v → B E s y v
 cross-forward {E} {s} {x} {y} {v} c f g = along g (c .matching v .0 (F-onward f g))
   where
@@ -63,7 +63,7 @@ cross-forward {E} {s} {x} {y} {v} c f g = along g (c .matching v .0 (F-onward f 
           | no k ↦ from e (λ q. F-no-return (λ x. F-onward f) (c .acyclicity) g (rw q at e)) (along (on g k e) d)
         ]
 
--- the entrance of one with the exit of another, if each lies in the other's U
+-- of bubbloids s, t and x, y, each with an end in the other's U, the pair s, y is one
 pub cross : {E : ℕ → ℕ → Type 0} {s t x y : ℕ} → Bubbloid E s t → Bubbloid E x y → F E x y s → F E s t y → s ≢ y → Bubbloid E s y
 cross b c f g n =
     make
@@ -72,6 +72,6 @@ cross b c f g n =
     (λ v h. B-reversed .0 (cross-forward (bubbloid-reversed .0 b) (inside-reversed b .0 g) (F-reversed .1 h)))
     (λ v w. c .acyclicity v (walk-widen (λ x. F-onward f) w))
 
--- the same for two that overlap
+-- of bubbloids s, t and x, y that overlap, s interior to the second and y to the first, the pair s, y is one
 pub overlap : {E : ℕ → ℕ → Type 0} {s t x y : ℕ} → Bubbloid E s t → Bubbloid E x y → Interior E x y s → Interior E s t y → Bubbloid E s y
 overlap b c i j = cross b c (i .inside) (j .inside) (i .not-exit)

@@ -4,7 +4,7 @@ use Prim.Native.Nat.{ℕ}
 use mathlib.Core.Path.{_≡_, sym}
 use mathlib.Core.Logic.{_↔_, _⊎_, ⊎-map}
 use Rattle.bubble.specs.Superbubble.{Reaches, Reaches.none, Reaches.then, F, F.start, F.on, B, B.end, B.from, Walk, Walk.edge, Walk.more, Bubbloid}
-use Rattle.bubble.proofs.Walks.{walk-before, walk-widen, reaches-before, F-walk, F-no-return, F-onward}
+use Rattle.bubble.proofs.Walks.{walk-before, walk-widen, reaches-before, F-reaches, reaches-exit, F-walk, F-no-return, F-onward}
 
 -- the graph turned round
 abbrev pub rev : (ℕ → ℕ → Type 0) → ℕ → ℕ → Type 0
@@ -33,6 +33,13 @@ F-reversed = (to-backward, to-forward)
 pub B-reversed : {E : ℕ → ℕ → Type 0} {s t v : ℕ} → B (rev E) t s v ↔ F E s t v
 B-reversed = (to-forward, to-backward)
 
+pub B-reaches : {E : ℕ → ℕ → Type 0} {s t v : ℕ} → B E s t v → Reaches E v t
+B-reaches b = reaches-reversed (F-reaches (F-reversed .1 b))
+
+-- t is reachable from s exactly if s is in B
+pub reaches-entrance : {E : ℕ → ℕ → Type 0} {s t : ℕ} → Reaches E s t ↔ B E s t s
+reaches-entrance = (λ r. F-reversed .0 (reaches-exit .0 (reaches-reversed r)), B-reaches)
+
 -- a path to t is empty, or a walk inside every set that holds B
 pub B-walk : {E : ℕ → ℕ → Type 0} {s t v : ℕ} {P : ℕ → Type 0} → ((x : ℕ) → B E s t x → P x) → B E s t v → (v ≡ t) ⊎ Walk E P v t
 B-walk h b = ⊎-map (λ q. q) walk-reversed (F-walk (λ x f. h x (F-reversed .0 f)) (F-reversed .1 b))
@@ -41,7 +48,7 @@ B-walk h b = ⊎-map (λ q. q) walk-reversed (F-walk (λ x f. h x (F-reversed .0
 pub B-no-return : {E : ℕ → ℕ → Type 0} {s t v : ℕ} {P : ℕ → Type 0} → ((x : ℕ) → B E s t x → P x) → ((x : ℕ) → Walk E P x x → ⊥) → B E s t v → E t v → ⊥
 B-no-return h a b = F-no-return (λ x f. h x (F-reversed .0 f)) (λ x w. a x (walk-reversed w)) (F-reversed .1 b)
 
--- a path that comes to a vertex of B begins in B
+-- B up to a vertex of B, from the same s, is part of B
 pub B-onward : {E : ℕ → ℕ → Type 0} {s t m v : ℕ} → B E s t m → B E s m v → B E s t v
 B-onward b c = F-reversed .0 (F-onward (F-reversed .1 b) (F-reversed .1 c))
 

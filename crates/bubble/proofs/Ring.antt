@@ -34,37 +34,34 @@ module _ {n : ℕ} (large : 3 ≤ n) where
 
   next-lone : (u : ℕ) → u < n → Lone (Ring n) u (next n u)
   next-lone u h = record {
-      distinct = ⊎-elim (λ c. omega arith) (λ c. omega arith) (next-cases n u);
-      joined = (h, refl);
-      only-out = λ v e. e .1;
-      only-in = λ v e. next-injective v u (e .0) h (sym (e .1));
-      not-back = λ e.
+    distinct = ⊎-elim (λ c. omega arith) (λ c. omega arith) (next-cases n u);
+    joined = (h, refl);
+    only-out = λ v e. e .1;
+    only-in = λ v e. next-injective v u (e .0) h (sym (e .1));
+    not-back = λ e.
         ⊎-elim
-          (λ c. ⊎-elim (λ d. omega arith) (λ d. omega arith) (next-cases n (next n u)))
-          (λ c. ⊎-elim (λ d. omega arith) (λ d. omega arith) (next-cases n (next n u)))
-          (next-cases n u)
-    }
+        (λ c. ⊎-elim (λ d. omega arith) (λ d. omega arith) (next-cases n (next n u)))
+        (λ c. ⊎-elim (λ d. omega arith) (λ d. omega arith) (next-cases n (next n u)))
+        (next-cases n u);
+  }
 
   pub ring-superbubbles : (s t : ℕ) → Superbubble (Ring n) s t ↔ ((s < n) × (t ≡ next n s))
-  ring-superbubbles s t =
-      (
-        λ p. let (v, f, e) = successor (p .bubbloid) start (p .bubbloid .distinct) in (e .0, exit-unique p (lone-superbubble (next-lone s (e .0)))),
-        λ e. rw (e .1) (lone-superbubble (next-lone s (e .0)))
-      )
+  ring-superbubbles s t = (
+    λ p. let (v, f, e) = successor (p .bubbloid) start (p .bubbloid .distinct) in (e .0, exit-unique p (lone-superbubble (next-lone s (e .0)))),
+    λ e. rw (e .1) (lone-superbubble (next-lone s (e .0))),
+  )
 
   -- exactly n: there is a list of n different pairs that holds the superbubbles and nothing else
   pub ring-exactly : (l : List (ℕ × ℕ)) × Distinct l × (length l ≡ n) × ((p : ℕ × ℕ) → List·Memᴰ p l ↔ Superbubble (Ring n) (p .0) (p .1))
-  ring-exactly =
-      (
-        map pair (upto n),
-        distinct-map pair (distinct-upto n) (λ u v i j q. ap (λ (p : ℕ × ℕ). p .0) q),
-        length-map (upto n) pair ∙ length-upto n,
-        λ p.
-          (
-            λ m. let (u, i, q) = Memᴰ·of-map pair (upto n) m in subst (λ (p : ℕ × ℕ). Superbubble (Ring n) (p .0) (p .1)) q (ring-superbubbles u (next n u) .1 (upto-below n i, refl)),
-            λ b. let (h, q) = ring-superbubbles (p .0) (p .1) .0 b in Memᴰ·cast (λ i. (p .0, q i)) (Memᴰ·map pair (in-upto n h))
-          )
-      )
+  ring-exactly = (
+    map pair (upto n),
+    distinct-map pair (distinct-upto n) (λ u v i j q. ap (λ (p : ℕ × ℕ). p .0) q),
+    length-map (upto n) pair ∙ length-upto n,
+    λ p. (
+      λ m. let (u, i, q) = Memᴰ·of-map pair (upto n) m in subst (λ (p : ℕ × ℕ). Superbubble (Ring n) (p .0) (p .1)) q (ring-superbubbles u (next n u) .1 (upto-below n i, refl)),
+      λ b. let (h, q) = ring-superbubbles (p .0) (p .1) .0 b in Memᴰ·cast (λ i. (p .0, q i)) (Memᴰ·map pair (in-upto n h)),
+    ),
+  )
     where
       pair : ℕ → ℕ × ℕ
       pair u = (u, next n u)

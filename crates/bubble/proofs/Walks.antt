@@ -1,10 +1,10 @@
 -- Walks and paths in any graph: how they are joined, carried over and cut.
 -- Assumes nothing.
 use Prim.Native.Nat.{ℕ}
-use mathlib.Core.Path.{_≡_, refl, sym}
+use mathlib.Core.Path.{_≡_, refl}
 use mathlib.Core.Logic.{_↔_, _⊎_, inl, inr, ⊎-elim}
 use native.Mathlib.Decide.{ℕ-discrete}
-use Rattle.bubble.specs.Superbubble.{Reaches, Reaches.none, Reaches.then, F, F.start, F.on, B, B.end, B.from, Walk, Walk.edge, Walk.more}
+use Rattle.bubble.specs.Superbubble.{Reaches, Reaches.none, Reaches.then, F, F.start, F.on, Walk, Walk.edge, Walk.more}
 
 module _ {E : ℕ → ℕ → Type 0} where
   -- a walk grows at its front
@@ -24,6 +24,7 @@ module _ {E : ℕ → ℕ → Type 0} where
   walk-widen {u = u} {v = v} h (edge p e q) = edge (h u p) e (h v q)
   walk-widen {v = v} h (more w e q) = more (walk-widen h w) e (h v q)
 
+  -- a path grows at its front
   pub reaches-before : {u v w : ℕ} → E u v → Reaches E v w → Reaches E u w
   reaches-before e none = then none e
   reaches-before e (then r f) = then (reaches-before e r) f
@@ -31,10 +32,6 @@ module _ {E : ℕ → ℕ → Type 0} where
   pub F-reaches : {s t v : ℕ} → F E s t v → Reaches E s v
   F-reaches start = none
   F-reaches (on f n e) = then (F-reaches f) e
-
-  pub B-reaches : {s t v : ℕ} → B E s t v → Reaches E v t
-  B-reaches end = none
-  B-reaches (from e n b) = reaches-before e (B-reaches b)
 
   -- a path from s to v has t nowhere but at the last place, or can be cut at its first t
   pub reaches-cut : {s v : ℕ} (t : ℕ) → Reaches E s v → F E s t v ⊎ F E s t t
@@ -55,7 +52,7 @@ module _ {E : ℕ → ℕ → Type 0} where
   pub F-no-return : {s t v : ℕ} {P : ℕ → Type 0} → ((x : ℕ) → F E s t x → P x) → ((x : ℕ) → Walk E P x x → ⊥) → F E s t v → E v s → ⊥
   F-no-return {s = s} h a f e = ⊎-elim (λ q. a s (edge (h s start) (rw q at e) (h s start))) (λ w. a s (more w e (h s start))) (F-walk h f)
 
-  -- a path that goes on from a vertex of F ends in F
+  -- F from a vertex of F, up to the same t, is part of F
   pub F-onward : {s t m v : ℕ} → F E s t m → F E m t v → F E s t v
   F-onward f start = f
   F-onward f (on g n e) = on (F-onward f g) n e
