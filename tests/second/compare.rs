@@ -4,7 +4,7 @@
 use crate::cases::{self, By, Case};
 use crate::examples;
 use crate::operations::OPERATIONS;
-use crate::programs::{self, Run, LONG, SHORT};
+use crate::programs::{self, LONG, SHORT};
 use crate::table::number_given;
 use std::path::Path;
 use std::sync::atomic::{AtomicUsize, Ordering};
@@ -113,11 +113,12 @@ fn every_number_and_order(cases: &[Case]) -> Vec<(String, Fault)> {
             let fault = (given < 5).then(|| format!("only {given} cases give it"));
             checks.push((format!("{operation} refuses {first}"), fault));
             for second in &numbers[place + 1..] {
-                let both = |faults: &&Vec<u32>| faults.contains(first) && faults.contains(second);
                 // a row is looked at only when 1 to 3 don't hold
-                let apart = *second == 5 && [1, 2, 3].contains(first);
-                let fault = (!apart && !faults.iter().any(|faults| both(&faults)))
-                    .then(|| "no case has both".to_string());
+                if *second == 5 && [1, 2, 3].contains(first) {
+                    continue;
+                }
+                let both = |faults: &Vec<u32>| faults.contains(first) && faults.contains(second);
+                let fault = (!faults.iter().any(both)).then(|| "no case has both".to_string());
                 checks.push((format!("{operation} refuses {first} before {second}"), fault));
             }
         }
@@ -127,13 +128,15 @@ fn every_number_and_order(cases: &[Case]) -> Vec<(String, Fault)> {
 
 // ---- the programs
 
-/// `gohardim` without a program, or with one that there is not, prints nothing and ends with 2.
+/// `gohardim` without a program, or with one that there is not, says how it is used and ends with 2.
 fn launcher_refuses(count: &mut Count) {
     for words in [&[][..], &["nothing"], &["../crates/show"]] {
-        let Run { output, status } = programs::run(Path::new("."), words, &[], 1, SHORT);
-        let fault = (!output.is_empty() || status != Ok(2))
-            .then(|| format!("it printed {} and ended with {status:?}", quoted(&output)));
-        count.judge(&format!("gohardim {words:?} prints nothing and ends with status 2"), fault);
+        let fault = match programs::refused(words) {
+            Ok(said) if said.contains("usage:") => None,
+            Ok(said) => Some(format!("it says {}", quoted(said.as_bytes()))),
+            Err(what) => Some(what),
+        };
+        count.judge(&format!("gohardim {words:?} is refused"), fault);
     }
 }
 

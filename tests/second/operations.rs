@@ -50,7 +50,7 @@ impl Operation {
         let mut body = Vec::new();
         let operation = match self {
             Show { stream } => {
-                body.extend(stream);
+                append_stream(&mut body, stream);
                 b's'
             }
             Check { table } => {
@@ -66,7 +66,7 @@ impl Operation {
                 append_number(&mut body, room.starts);
                 append_number(&mut body, room.targets);
                 append_number(&mut body, room.counts);
-                body.extend(stream);
+                append_stream(&mut body, stream);
                 b'r'
             }
         };
@@ -161,8 +161,16 @@ fn append_number(bytes: &mut Vec<u8>, number: usize) {
     bytes.extend((number as u32).to_le_bytes());
 }
 
+fn append_stream(body: &mut Vec<u8>, stream: &[u8]) {
+    assert!(stream.len() <= LONGEST_STREAM, "a question that batch does not take");
+    body.extend(stream);
+}
+
 /// The three lengths, then the three slices.
 fn append_lent(body: &mut Vec<u8>, table: &Table) {
+    let fits =
+        table.starts.len() <= 4_096 && table.targets.len() <= 16_384 && table.counts.len() <= 4_096;
+    assert!(fits, "a question that batch does not take");
     append_number(body, table.starts.len());
     append_number(body, table.targets.len());
     append_number(body, table.counts.len());

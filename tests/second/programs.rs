@@ -63,6 +63,17 @@ pub fn run(folder: &Path, words: &[&str], input: &[u8], piece: usize, limit: Dur
     })
 }
 
+/// What `gohardim` says on standard error to words that it refuses, where it prints nothing and ends
+/// with the status 2.
+pub fn refused(words: &[&str]) -> Result<String, String> {
+    let ended = Command::new(launcher()).args(words).output().map_err(|error| error.to_string())?;
+    if ended.status.code() == Some(2) && ended.stdout.is_empty() {
+        Ok(String::from_utf8_lossy(&ended.stderr).into_owned())
+    } else {
+        Err(format!("it printed {} bytes, {}", ended.stdout.len(), ended.status))
+    }
+}
+
 fn launcher() -> PathBuf {
     std::env::current_dir().expect("the current folder can be read").join("gohardim")
 }
