@@ -37,6 +37,7 @@ abbrev pub Any : ℕ → Type 0
 Any v = Unit {0}
 
 module _ {R : ℕ → ℕ → Type 0} {r : ℕ → ℕ → Bool} (d : (u v : ℕ) → Decides (R u v) (r u v)) (n : ℕ) (below : (u v : ℕ) → R u v → v < n) where
+  -- whether v is a step from u that is not in seen
   decides-unseen : (u : ℕ) (seen : List ℕ) (v : ℕ) → Decides (R u v × (List·Memᴰ v seen → ⊥)) (r u v && not (member v seen))
   decides-unseen u seen v = decides-and (d u v) (decides-not (decides-member v seen))
 
@@ -74,15 +75,15 @@ module _ {R : ℕ → ℕ → Type 0} {r : ℕ → ℕ → Bool} (d : (u v : ℕ
       }
     where
       seen-settled : (v : ℕ) → List·Memᴰ v seen → List·Memᴰ v (unseen r n u seen ++ todo) ⊎ ((w : ℕ) → R v w → List·Memᴰ w (unseen r n u seen ++ seen))
-      seen-settled v i =
-          ⊎-elim
-          (λ j. ⊎-elim (λ q. inr (λ w e. in-unseen u seen (rw q at e))) (λ k. inl (Memᴰ·append-right (unseen r n u seen) k)) (List·Memᴰ·cases-cons j))
-          (λ h. inr (λ w e. Memᴰ·append-right (unseen r n u seen) (h w e)))
-          (c .settled v i)
+      seen-settled v i = ⊎-elim waiting (λ h. inr (λ w e. Memᴰ·append-right (unseen r n u seen) (h w e))) (c .settled v i)
+        where
+          waiting : List·Memᴰ v (u ∷ todo) → List·Memᴰ v (unseen r n u seen ++ todo) ⊎ ((w : ℕ) → R v w → List·Memᴰ w (unseen r n u seen ++ seen))
+          waiting j = ⊎-elim (λ q. inr (λ w e. in-unseen u seen (rw q at e))) (λ k. inl (Memᴰ·append-right (unseen r n u seen) k)) (List·Memᴰ·cases-cons j)
 
   nothing-waits : {u : ℕ} {todo seen : List ℕ} → Exploring zero todo seen → List·Memᴰ u todo → ⊥
   nothing-waits c m = omega (arith, c .enough, distinct-below n (c .distinct) (c .bounded), length-positive m)
 
+  -- what exploring ends with has its own steps
   explore-closed : (k : ℕ) (todo seen : List ℕ) → Exploring k todo seen → (u v : ℕ) → List·Memᴰ u (explore r n k todo seen) → R u v → List·Memᴰ v (explore r n k todo seen)
   unfolding explore
   explore-closed zero todo seen c u v m e = ⊎-elim (λ i. absurd (nothing-waits c i)) (λ h. h v e) (c .settled u m)
@@ -95,6 +96,7 @@ module _ {R : ℕ → ℕ → Type 0} {r : ℕ → ℕ → Bool} (d : (u v : ℕ
   explore-keeps (suc k) [] seen m = m
   explore-keeps (suc k) (x ∷ todo) seen m = explore-keeps k (unseen r n x seen ++ todo) (unseen r n x seen ++ seen) (Memᴰ·append-right (unseen r n x seen) m)
 
+  -- what exploring ends with is led to
   explore-sound : {s v : ℕ} (k : ℕ) (todo seen : List ℕ) → ((w : ℕ) → List·Memᴰ w todo → Walk R Any s w) → ((w : ℕ) → List·Memᴰ w seen → Walk R Any s w)
       → List·Memᴰ v (explore r n k todo seen) → Walk R Any s v
   unfolding explore
@@ -103,14 +105,11 @@ module _ {R : ℕ → ℕ → Type 0} {r : ℕ → ℕ → Bool} (d : (u v : ℕ
   explore-sound {s} (suc k) (x ∷ todo) seen f g m =
       let new = unseen r n x seen in
       let h : (w : ℕ) → List·Memᴰ w new → Walk R Any s w = λ w i. more (f x (List·Memᴰ·head refl)) (of-unseen x seen i .0) tt in
-      explore-sound
-      k
-      (new ++ todo)
-      (new ++ seen)
-      (λ w i. ⊎-elim (h w) (λ j. f w (List·Memᴰ·tail j)) (List·Memᴰ·append-cases new i))
-      (λ w i. ⊎-elim (h w) (g w) (List·Memᴰ·append-cases new i))
-      m
+      let waiting : (w : ℕ) → List·Memᴰ w (new ++ todo) → Walk R Any s w = λ w i. ⊎-elim (h w) (λ j. f w (List·Memᴰ·tail j)) (List·Memᴰ·append-cases new i) in
+      let met : (w : ℕ) → List·Memᴰ w (new ++ seen) → Walk R Any s w = λ w i. ⊎-elim (h w) (g w) (List·Memᴰ·append-cases new i) in
+      explore-sound k (new ++ todo) (new ++ seen) waiting met m
 
+  -- the closure of u holds what one step or more lead to, and nothing else
   pub decides-closure : (u v : ℕ) → Decides (Walk R Any u v) (member v (closure r n u))
   unfolding closure
   decides-closure u v = decides-if (sound, complete) (decides-member v (closure r n u))

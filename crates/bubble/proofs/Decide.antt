@@ -81,15 +81,16 @@ F-by-walk {E} {s} {t} = (⊎-elim (λ q. rw q start) to, back)
     back start = inl refl
     back (on f n e) = inr (⊎-elim (λ q. edge tt (rw q at n, rw q at e) tt) (λ w. more w (n, e) tt) (back f))
 
-decides-F : {E : ℕ → ℕ → Type 0} {e : ℕ → ℕ → Bool} → ((u v : ℕ) → Decides (E u v) (e u v)) → (n : ℕ) → Below E n → (s t v : ℕ) → Decides (F E s t v) (member v (forward-set e n s t))
+-- F is exactly what forward-set lists
+pub decides-F : {E : ℕ → ℕ → Type 0} {e : ℕ → ℕ → Bool} → ((u v : ℕ) → Decides (E u v) (e u v)) → (n : ℕ) → Below E n → (s t v : ℕ) → Decides (F E s t v) (member v (forward-set e n s t))
 unfolding forward-set member
 decides-F d n below s t v =
-    decides-if
-    F-by-walk
-    (decides-or (decides-equal v s) (decides-closure (λ x y. decides-and (decides-not (decides-equal x t)) (d x y)) n (λ x y h. below x y (h .1) .1) s v))
+    let walked = decides-closure (λ x y. decides-and (decides-not (decides-equal x t)) (d x y)) n (λ x y h. below x y (h .1) .1) s v in
+    decides-if F-by-walk (decides-or (decides-equal v s) walked)
 
 module _ {E : ℕ → ℕ → Type 0} {e : ℕ → ℕ → Bool} (d : (u v : ℕ) → Decides (E u v) (e u v)) (n : ℕ) (below : Below E n) where
-  decides-B : (s t v : ℕ) → Decides (B E s t v) (member v (backward-set e n s t))
+  -- B is exactly what backward-set lists
+  pub decides-B : (s t v : ℕ) → Decides (B E s t v) (member v (backward-set e n s t))
   unfolding backward-set
   decides-B s t v = decides-if F-reversed (decides-F (λ x y. d y x) n (λ x y h. (below y x h .1, below y x h .0)) t s v)
 
@@ -101,9 +102,8 @@ module _ {E : ℕ → ℕ → Type 0} {e : ℕ → ℕ → Bool} (d : (u v : ℕ
 
   decides-cycle : (s t v : ℕ) → Decides (Walk E (F E s t) v v) (member v (closure (λ u w. member u (forward-set e n s t) && (e u w && member w (forward-set e n s t))) n v))
   decides-cycle s t v =
-      decides-if
-      guarded-walk
-      (decides-closure (λ x y. decides-and (decides-F d n below s t x) (decides-and (d x y) (decides-F d n below s t y))) n (λ x y h. below x y (h .1 .0) .1) v v)
+      let inside = decides-F d n below s t in
+      decides-if guarded-walk (decides-closure (λ x y. decides-and (inside x) (decides-and (d x y) (inside y))) n (λ x y h. below x y (h .1 .0) .1) v v)
 
   -- F within B and B within F, over the listed sets
   abbrev Matched : ℕ → ℕ → Type 0

@@ -1,4 +1,4 @@
--- The facts of a bubbloid with entrance s, exit t and set U = F s t. Each that has a twin by exit has it by turning the graph round.
+-- The facts of a bubbloid with entrance s, exit t and set U = F s t: first by entrance, then their twins by exit, in the graph turned round.
 -- Assumes nothing.
 use Prim.Native.Nat.{ℕ}
 use mathlib.Core.Path.{refl}
@@ -37,6 +37,7 @@ module _ {E : ℕ → ℕ → Type 0} {s t : ℕ} (b : Bubbloid E s t) where
   pub predecessor : {v : ℕ} → F E s t v → v ≢ s → (u : ℕ) × F E s t u × E u v
   predecessor f n = let (u, g, m, e) = last-edge f n in (u, g, e)
 
+-- the twins, by exit
 module _ {E : ℕ → ℕ → Type 0} {s t : ℕ} (b : Bubbloid E s t) where
   pub walk-to-exit : {u : ℕ} → F E s t u → u ≢ t → Walk E (F E s t) u t
   walk-to-exit {u} f n = ⊎-elim (λ q. absurd (n q)) (λ w. w) (B-walk (λ x. b .matching x .1) (b .matching u .0 f))

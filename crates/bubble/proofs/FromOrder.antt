@@ -1,4 +1,4 @@
--- From an order to a bubbloid: vertices at the places 0 to k, closed but at the two ends, with every edge among them rising, are the set of one.
+-- From an order to a bubbloid: the vertices at the places 0 to k of a list in which children stand later and parents earlier are the set of one.
 -- Assumes nothing.
 use Prim.Native.Nat.{ℕ, zero, suc, _+_, _≤_, _<_}
 use mathlib.Core.Path.{_≡_, refl, sym}
@@ -15,41 +15,47 @@ pub record Placed (place : ℕ → ℕ) (k v : ℕ) : Type 0 where
   pub bound : at ≤ k
   pub same : place at ≡ v
 
--- the places 0 to k are closed but for edges out of the last and into the first, each but the last has an edge out and each but the first one in, and every edge among them rises
+-- the places 0 to k hold different vertices; those before k have their children among the places, at least one, and those after 0 their parents at places before, at least one; no edge leads back to place 0
 pub record Rising (E : ℕ → ℕ → Type 0) (place : ℕ → ℕ) (k : ℕ) : Type 0 where
   pub several : 0 < k
-  pub forward : (i : ℕ) {v : ℕ} → i < k → E (place i) v → Placed place k v
-  pub backward : (i : ℕ) {u : ℕ} → 0 < i → i ≤ k → E u (place i) → Placed place k u
+  pub apart : (i j : ℕ) → i ≤ k → j ≤ k → place i ≡ place j → i ≡ j
+  pub children : (i : ℕ) {v : ℕ} → i < k → E (place i) v → Placed place k v
+  pub parents : (i : ℕ) {u : ℕ} → 0 < i → i ≤ k → E u (place i) → (j : ℕ) × (j < i) × (place j ≡ u)
   pub child : (i : ℕ) → i < k → (v : ℕ) × E (place i) v
   pub parent : (i : ℕ) → 0 < i → i ≤ k → (u : ℕ) × E u (place i)
-  pub rises : (i j : ℕ) → i ≤ k → j ≤ k → E (place i) (place j) → i < j
+  pub none-back : (i : ℕ) → i ≤ k → E (place i) (place 0) → ⊥
 
 module _ {E : ℕ → ℕ → Type 0} {place : ℕ → ℕ} {k : ℕ} (r : Rising E place k) where
+  -- an edge among the places rises
+  rises : (i j : ℕ) → i ≤ k → j ≤ k → E (place i) (place j) → i < j
+  rises i j h l e =
+      elim (ℕ-discrete j 0) [
+        | yes q ↦ absurd (r .none-back i h (rw q at e))
+        | no n ↦
+            let (x, a, q) = r .parents j (omega arith) l e in
+            omega (arith, r .apart x i (omega arith) h q)
+      ]
+
+  -- a place before the last has an edge to a later one
   later : (i : ℕ) → i < k → (j : ℕ) × (i < j) × (j ≤ k) × E (place i) (place j)
   later i h =
       let (v, e) = r .child i h in
-      let p = r .forward i h e in
+      let p = r .children i h e in
       let g : E (place i) (place (p .at)) = rw (p .same) e in
-      (p .at, r .rises i (p .at) (omega arith) (p .bound) g, p .bound, g)
+      (p .at, rises i (p .at) (omega arith) (p .bound) g, p .bound, g)
 
+  -- a place after the first has an edge from an earlier one
   earlier : (i : ℕ) → 0 < i → i ≤ k → (j : ℕ) × (j < i) × E (place j) (place i)
   earlier i h l =
       let (u, e) = r .parent i h l in
-      let p = r .backward i h l e in
-      let g : E (place (p .at)) (place i) = rw (p .same) e in
-      (p .at, r .rises (p .at) i (p .bound) l g, g)
+      let (j, a, q) = r .parents i h l e in
+      (j, a, rw q e)
 
   before-exit : (i : ℕ) → i < k → place i ≢ place k
-  before-exit i h q =
-      let (j, a, l, e) = later i h in
-      let z : k < j = r .rises k j (omega arith) l (rw q at e) in
-      omega arith
+  before-exit i h q = omega (arith, r .apart i k (omega arith) (omega arith) q)
 
   after-entrance : (i : ℕ) → 0 < i → i ≤ k → place i ≢ place 0
-  after-entrance i h l q =
-      let (j, a, e) = earlier i h l in
-      let z : j < 0 = r .rises j 0 (omega arith) (omega arith) (rw q at e) in
-      omega arith
+  after-entrance i h l q = omega (arith, r .apart i 0 l (omega arith) q)
 
   -- each place up to d is reached from the first
   reached-place : (d i : ℕ) → i ≤ d → i ≤ k → F E (place 0) (place k) (place i)
@@ -74,8 +80,9 @@ module _ {E : ℕ → ℕ → Type 0} {place : ℕ → ℕ} {k : ℕ} (r : Risin
       ]
 
   rising-edge : {u v : ℕ} → (p : Placed place k u) (q : Placed place k v) → E u v → p .at < q .at
-  rising-edge p q e = r .rises (p .at) (q .at) (p .bound) (q .bound) (rw (p .same, q .same) e)
+  rising-edge p q e = rises (p .at) (q .at) (p .bound) (q .bound) (rw (p .same, q .same) e)
 
+  -- so does a walk among the places
   rising-walk : {u v : ℕ} → (p : Placed place k u) (q : Placed place k v) → Walk E (Placed place k) u v → p .at < q .at
   rising-walk p q (edge a e b) = rising-edge p q e
   rising-walk p q (more w e b) = let m = walk-end w in omega (arith, rising-walk p m w, rising-edge m q e)
@@ -85,8 +92,12 @@ module _ {E : ℕ → ℕ → Type 0} {place : ℕ → ℕ} {k : ℕ} (r : Risin
     distinct = before-exit 0 (r .several);
     entrance = record { at = 0; bound = omega arith; same = refl };
     exit = record { at = k; bound = omega arith; same = refl };
-    forward = λ p n e. let m : p .at ≢ k = λ q. n (rw q at (sym (p .same))) in r .forward (p .at) (omega arith) (rw (p .same) e);
-    backward = λ p n e. let m : p .at ≢ 0 = λ q. n (rw q at (sym (p .same))) in r .backward (p .at) (omega arith) (p .bound) (rw (p .same) e);
+    forward = λ p n e. let m : p .at ≢ k = λ q. n (rw q at (sym (p .same))) in r .children (p .at) (omega arith) (rw (p .same) e);
+    backward = λ {u} {v} p n e.
+        let m : p .at ≢ 0 = λ q. n (rw q at (sym (p .same))) in
+        let l : p .at ≤ k = p .bound in
+        let (j, a, q) = r .parents (p .at) {u = u} (omega arith) l (rw (p .same) e) in
+        record { at = j; bound = omega arith; same = q };
     reached = λ v p. rw (p .same) at (reached-place (p .at) (p .at) (omega arith) (p .bound));
     reaching = λ v p. rw (p .same) at (reaching-place k (p .at) (p .bound) (omega arith));
     acyclic = λ v w. let p = walk-end w in omega (arith, rising-walk p p w);

@@ -62,11 +62,13 @@ module _ {E : ℕ → ℕ → Type 0} {s t x y : ℕ} where
 module _ {E : ℕ → ℕ → Type 0} {s t x y : ℕ} (p : Superbubble E s t) (q : Superbubble E x y) (different : s ≢ x) where
   -- where a vertex is interior to one and in the other, an entrance is interior to the other one
   pub meets : {v : ℕ} → Interior E s t v → F E x y v → Interior E x y s ⊎ Interior E s t x
-  meets i f =
-      ⊎-map
-      (λ h. record { inside = h .0; not-entrance = different; not-exit = h .1 })
-      (λ h. record { inside = h .0; not-entrance = λ e. different (sym e); not-exit = h .1 })
-      (passes (p .bubbloid) i f)
+  meets i f = ⊎-map one other (passes (p .bubbloid) i f)
+    where
+      one : F E x y s × (s ≢ y) → Interior E x y s
+      one h = record { inside = h .0; not-entrance = different; not-exit = h .1 }
+
+      other : F E s t x × (x ≢ t) → Interior E s t x
+      other h = record { inside = h .0; not-entrance = λ e. different (sym e); not-exit = h .1 }
 
   -- of two different superbubbles with a vertex interior to one and in the other, one lies in the interior of the other
   pub meets-nested : {v : ℕ} → Interior E s t v → F E x y v → Nested E s t x y ⊎ Nested E x y s t
@@ -75,7 +77,7 @@ module _ {E : ℕ → ℕ → Type 0} {s t x y : ℕ} (p : Superbubble E s t) (q
 -- two different superbubbles are nested one way, or the other, or apart; only whether each entrance lies in the other's U has to be known
 pub nested-or-apart : {E : ℕ → ℕ → Type 0} {s t x y : ℕ} → Superbubble E s t → Superbubble E x y → s ≢ x → Dec (F E x y s) → Dec (F E s t x)
     → Nested E s t x y ⊎ Nested E x y s t ⊎ (Apart E s t x y × Apart E x y s t)
-nested-or-apart {E} {s} {t} {x} {y} p q n c d =
+nested-or-apart p q n c d =
     elim (interior-decided c) [
       | yes i ↦ inl (nest p q i)
       | no h ↦

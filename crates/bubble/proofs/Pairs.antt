@@ -29,15 +29,15 @@ module _ {E : ℕ → ℕ → Type 0} {s t m : ℕ} (b : Bubbloid E s t) (inside
 
   -- a vertex of U other than s and t forms with s a bubbloid exactly if t cannot be reached without it
   pub cut : m ≢ s → m ≢ t → Bubbloid E s m ↔ (F E s m t → ⊥)
-  cut n k = (
-    λ c f. let (v, g, l, e) = first-edge (c .matching t .0 f) (λ q. k (sym q)) in no-edge-from-exit b (back-inside v g) e,
-    λ h.
-        make
-        (λ q. n (sym q))
-        (λ v f. cut-forward h f (b .matching v .0 (F-within h f)))
-        (λ v c. cut-backward c (back-inside v c))
-        (λ v w. b .acyclicity v (walk-widen (λ x. F-within h) w)),
-  )
+  cut n k = (out, back)
+    where
+      out : Bubbloid E s m → F E s m t → ⊥
+      out c f = let (v, g, l, e) = first-edge (c .matching t .0 f) (λ q. k (sym q)) in no-edge-from-exit b (back-inside v g) e
+
+      back : (F E s m t → ⊥) → Bubbloid E s m
+      back h =
+          let forward : (v : ℕ) → F E s m v → B E s m v = λ v f. cut-forward h f (b .matching v .0 (F-within h f)) in
+          make (λ q. n (sym q)) forward (λ v c. cut-backward c (back-inside v c)) (λ v w. b .acyclicity v (walk-widen (λ x. F-within h) w))
 
 -- of bubbloids s, t and m, t with m in U, the front s, m is one
 pub front-pair : {E : ℕ → ℕ → Type 0} {s t m : ℕ} → Bubbloid E s t → Bubbloid E m t → F E s t m → m ≢ s → Bubbloid E s m
@@ -57,7 +57,7 @@ cross-forward {E} {s} {x} {y} {v} c f g = along g (c .matching v .0 (F-onward f 
   where
     along : {v : ℕ} → F E s y v → B E x y v → B E s y v
     along g end = end
-    along {v} g (from {v = w} e n d) =
+    along {v} g (from e n d) =
         elim (ℕ-discrete v y) [
           | yes q ↦ rw q end
           | no k ↦ from e (λ q. F-no-return (λ x. F-onward f) (c .acyclicity) g (rw q at e)) (along (on g k e) d)
@@ -65,12 +65,10 @@ cross-forward {E} {s} {x} {y} {v} c f g = along g (c .matching v .0 (F-onward f 
 
 -- of bubbloids s, t and x, y, each with an end in the other's U, the pair s, y is one
 pub cross : {E : ℕ → ℕ → Type 0} {s t x y : ℕ} → Bubbloid E s t → Bubbloid E x y → F E x y s → F E s t y → s ≢ y → Bubbloid E s y
-cross b c f g n =
-    make
-    n
-    (λ v. cross-forward c f)
-    (λ v h. B-reversed .0 (cross-forward (bubbloid-reversed .0 b) (inside-reversed b .0 g) (F-reversed .1 h)))
-    (λ v w. c .acyclicity v (walk-widen (λ x. F-onward f) w))
+cross {E} {s} {t} {x} {y} b c f g n = make n (λ v. cross-forward c f) back (λ v w. c .acyclicity v (walk-widen (λ x. F-onward f) w))
+  where
+    back : (v : ℕ) → B E s y v → F E s y v
+    back v h = B-reversed .0 (cross-forward (bubbloid-reversed .0 b) (inside-reversed b .0 g) (F-reversed .1 h))
 
 -- of bubbloids s, t and x, y that overlap, s interior to the second and y to the first, the pair s, y is one
 pub overlap : {E : ℕ → ℕ → Type 0} {s t x y : ℕ} → Bubbloid E s t → Bubbloid E x y → Interior E x y s → Interior E s t y → Bubbloid E s y

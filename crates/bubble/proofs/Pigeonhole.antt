@@ -72,9 +72,8 @@ distinct-append (fresh {a = a} {l = l} n d) e h =
 pub distinct-map : {A B : Type 0} {l : List A} (f : A → B) → Distinct l → ((a b : A) → List·Memᴰ a l → List·Memᴰ b l → f a ≡ f b → a ≡ b) → Distinct (map f l)
 distinct-map f empty h = empty
 distinct-map f (fresh {a = a} {l = l} n d) h =
-    fresh
-    (λ m. let (b, i, q) = Memᴰ·of-map f l m in n (Memᴰ·cast (h a b (List·Memᴰ·head refl) (List·Memᴰ·tail i) (sym q)) i))
-    (distinct-map f d (λ x y i j. h x y (List·Memᴰ·tail i) (List·Memᴰ·tail j)))
+    let new : List·Memᴰ (f a) (map f l) → ⊥ = λ m. let (b, i, q) = Memᴰ·of-map f l m in n (Memᴰ·cast (h a b (List·Memᴰ·head refl) (List·Memᴰ·tail i) (sym q)) i) in
+    fresh new (distinct-map f d (λ x y i j. h x y (List·Memᴰ·tail i) (List·Memᴰ·tail j)))
 
 pub distinct-upto : (n : ℕ) → Distinct (upto n)
 unfolding upto
