@@ -1,0 +1,175 @@
+-- Laws of bytes and numbers: what stands at a place, and one number more. Assumes nothing.
+use Prim.Native.Nat.{ℕ, zero, suc, _+_, _*_, _-_, _/_, _%_, _≤_, _<_}
+use mathlib.Core.Path.{_≡_, refl, sym, ap, _∙_}
+use mathlib.Core.List.{List, [], _∷_, _++_, append-assoc, append-nil}
+use native.Mathlib.Nat.{not-suc-le-zero, le-of-suc-le-suc, mul-zero, mul-suc, mul-le-mul-left, add-mul-div-left}
+use native.Mathlib.Numerals.{add-one}
+use native.Mathlib.Omega.{arith}
+use lib.ListN.{length, getD, take, drop, set, length-append, length-take, length-drop}
+use lib.Seq.{drop-cons, drop-drop, take-add, take-at, drop-at, set-at, length-take-le, sets-eq, paste-zero}
+use lib.Dec.{lit<}
+use Rattle.image.specs.Bytes.{valueOf, bytesOf, numbersOf, spelled, over}
+
+-- the byte at a place, and the rest
+pub one-at : (bs : List ℕ) (at : ℕ) → at < length bs → drop at bs ≡ getD bs at 0 ∷ drop (at + 1) bs
+one-at bs at h = rw (add-one at) (drop-cons bs at 0 h)
+
+-- the four bytes from a place on
+four-at : (bs : List ℕ) (at : ℕ) → at + 4 ≤ length bs
+  → take 4 (drop at bs) ≡ getD bs at 0 ∷ getD bs (at + 1) 0 ∷ getD bs (at + 2) 0 ∷ getD bs (at + 3) 0 ∷ []
+four-at bs at h =
+    let two : at + 1 + 1 ≡ at + 2 = omega arith in
+    let three : at + 2 + 1 ≡ at + 3 = omega arith in
+    let b₀ = getD bs at 0 in
+    let b₁ = getD bs (at + 1) 0 in
+    let b₂ = getD bs (at + 2) 0 in
+    ap (take 4) (one-at bs at (omega arith))
+    ∙ ap (λ (l : List ℕ). b₀ ∷ take 3 l) (rw two at (one-at bs (at + 1) (omega arith)))
+    ∙ ap (λ (l : List ℕ). b₀ ∷ b₁ ∷ take 2 l) (rw three at (one-at bs (at + 2) (omega arith)))
+    ∙ ap (λ (l : List ℕ). b₀ ∷ b₁ ∷ b₂ ∷ take 1 l) (one-at bs (at + 3) (omega arith))
+
+-- the 32-bit number at a place, by its bytes
+pub word-at : (bs : List ℕ) (at : ℕ) → at + 4 ≤ length bs
+  → valueOf (take 4 (drop at bs)) ≡ getD bs at 0 + 256 * getD bs (at + 1) 0 + 65536 * getD bs (at + 2) 0 + 16777216 * getD bs (at + 3) 0
+word-at bs at h = ap valueOf (four-at bs at h) ∙ omega arith
+
+-- the 64-bit number at a place, by its halves
+pub long-at : (bs : List ℕ) (at : ℕ) → at + 8 ≤ length bs
+  → valueOf (take 8 (drop at bs)) ≡ valueOf (take 4 (drop at bs)) + 4294967296 * valueOf (take 4 (drop (at + 4) bs))
+long-at bs at h =
+    let halves : take 8 (drop at bs) ≡ take 4 (drop at bs) ++ take 4 (drop (at + 4) bs) = take-add 4 4 (drop at bs) ∙ ap (λ (l : List ℕ). take 4 (drop at bs) ++ take 4 l) (drop-drop 4 at bs) in
+    rw halves (rw (four-at bs at (omega arith), four-at bs (at + 4) (omega arith)) (omega arith))
+
+numbers-suc : (k count : ℕ) (bs : List ℕ) → numbersOf k (suc count) bs ≡ numbersOf k count bs ++ valueOf (take k (drop (k * count) bs)) ∷ []
+numbers-suc k zero bs = rw (mul-zero k) refl
+numbers-suc k (suc count) bs =
+    let sum : k + k * count ≡ k * suc count = omega (arith, mul-suc k count) in
+    let further : drop (k * count) (drop k bs) ≡ drop (k * suc count) bs = drop-drop (k * count) k bs ∙ ap (λ (j : ℕ). drop j bs) sum in
+    ap (λ (l : List ℕ). valueOf (take k bs) ∷ l) (rw further at (numbers-suc k count (drop k bs)))
+
+-- a list of numbers is as long as was asked
+pub numbers-length : (k count : ℕ) (bs : List ℕ) → length (numbersOf k count bs) ≡ count
+numbers-length k zero bs = refl
+numbers-length k (suc count) bs = ap suc (numbers-length k count (drop k bs))
+
+-- a store right behind a front that stands over a list
+front-more : (front list : List ℕ) (v n : ℕ) → length front ≡ n → n < length list → set (front ++ drop n list) n v ≡ front ++ v ∷ [] ++ drop (n + 1) list
+front-more front list v n e h =
+    rw (one-at list n h, set-at front (getD list n 0) (drop (n + 1) list) v n e) (sym (append-assoc front (v ∷ []) (drop (n + 1) list)))
+
+-- one number more at the front of a slice, read from its place
+pub read-more : (k count at : ℕ) (bs out list : List ℕ) (v : ℕ) → count < length out → list ≡ numbersOf k count (drop at bs) ++ drop count out
+  → v ≡ valueOf (take k (drop (at + k * count) bs)) → set list count v ≡ numbersOf k (count + 1) (drop at bs) ++ drop (count + 1) out
+read-more k count at bs out list v h before e =
+    let value : v ≡ valueOf (take k (drop (k * count) (drop at bs))) = e ∙ ap (λ (l : List ℕ). valueOf (take k l)) (sym (drop-drop (k * count) at bs)) in
+    rw (before, value)
+    (front-more (numbersOf k count (drop at bs)) out (valueOf (take k (drop (k * count) (drop at bs)))) count (numbers-length k count (drop at bs)) h
+    ∙ ap (λ (l : List ℕ). l ++ drop (count + 1) out) (sym (ap (λ (j : ℕ). numbersOf k j (drop at bs)) (add-one count) ∙ numbers-suc k count (drop at bs))))
+
+-- numbers at the front of a slice leave its length
+pub read-length : (k count : ℕ) (bs out list : List ℕ) → count ≤ length out → list ≡ numbersOf k count bs ++ drop count out → length list ≡ length out
+read-length k count bs out list h e =
+    ap length e ∙ length-append (numbersOf k count bs) (drop count out) ∙ omega (arith, numbers-length k count bs, length-drop count out)
+
+pub bytes-length : (k x : ℕ) → length (bytesOf k x) ≡ k
+bytes-length zero x = refl
+bytes-length (suc k) x = ap suc (bytes-length k (x / 256))
+
+pub spelled-length : (k : ℕ) (xs : List ℕ) → length (spelled k xs) ≡ k * length xs
+spelled-length k [] = sym (mul-zero k)
+spelled-length k (x ∷ xs) =
+    length-append (bytesOf k x) (spelled k xs) ∙ omega (arith, bytes-length k x, spelled-length k xs, mul-suc k (length xs))
+
+spelled-suc : (k : ℕ) (xs : List ℕ) (i : ℕ) → i < length xs → spelled k (take (suc i) xs) ≡ spelled k (take i xs) ++ bytesOf k (getD xs i 0)
+spelled-suc k [] i h = absurd (not-suc-le-zero h)
+spelled-suc k (x ∷ xs) zero h = append-nil (bytesOf k x)
+spelled-suc k (x ∷ xs) (suc i) h =
+    ap (λ (l : List ℕ). bytesOf k x ++ l) (spelled-suc k xs i (le-of-suc-le-suc h))
+    ∙ sym (append-assoc (bytesOf k x) (spelled k (take i xs)) (bytesOf k (getD xs i 0)))
+
+-- what is written over a list leaves its length
+pub over-length : (list : List ℕ) (at : ℕ) (xs : List ℕ) → at + length xs ≤ length list → length (over list at xs) ≡ length list
+over-length list at xs h =
+    length-append (take at list ++ xs) (drop (at + length xs) list)
+    ∙ omega (arith, length-append (take at list) xs, length-take at list, length-drop (at + length xs) list)
+
+pub over-none : (list : List ℕ) (at : ℕ) → list ≡ over list at []
+over-none list at = paste-zero list at []
+
+-- one after the other is both at once
+pub over-over : (list : List ℕ) (at next : ℕ) (xs ys : List ℕ) → at + length xs ≡ next → next + length ys ≤ length list
+  → over (over list at xs) next ys ≡ over list at (xs ++ ys)
+over-over list at next xs ys e h =
+    let front = take at list ++ xs in
+    let rest = drop (at + length xs) list in
+    let long : length front ≡ next = length-append (take at list) xs ∙ omega (arith, length-take at list) in
+    let kept : take next (front ++ rest) ≡ front = take-at front rest next long in
+    let sum : at + length xs + length ys ≡ at + length (xs ++ ys) = omega (arith, length-append xs ys) in
+    let left : drop (next + length ys) (front ++ rest) ≡ drop (at + length (xs ++ ys)) list
+        = sym (drop-drop (length ys) next (front ++ rest)) ∙ ap (drop (length ys)) (drop-at front rest next long) ∙ drop-drop (length ys) (at + length xs) list
+          ∙ ap (λ (j : ℕ). drop j list) sum in
+    ap (λ (l : List ℕ). l ++ ys ++ drop (next + length ys) (front ++ rest)) kept
+    ∙ ap (λ (l : List ℕ). front ++ ys ++ l) left
+    ∙ ap (λ (l : List ℕ). l ++ drop (at + length (xs ++ ys)) list) (append-assoc (take at list) xs ys)
+
+spelled-front : (k i : ℕ) (xs : List ℕ) → i ≤ length xs → length (spelled k (take i xs)) ≡ k * i
+spelled-front k i xs h = spelled-length k (take i xs) ∙ ap (λ (j : ℕ). k * j) (length-take-le i xs h)
+
+-- one number more over a list
+pub write-more : (k at i : ℕ) (xs out list list′ : List ℕ) → i < length xs → at + k * length xs ≤ length out → list ≡ over out at (spelled k (take i xs))
+  → list′ ≡ over list (at + k * i) (bytesOf k (getD xs i 0)) → list′ ≡ over out at (spelled k (take (i + 1) xs))
+write-more k at i xs out list list′ h room before e =
+    let one-more : spelled k (take i xs) ++ bytesOf k (getD xs i 0) ≡ spelled k (take (i + 1) xs) = sym (ap (λ (j : ℕ). spelled k (take j xs)) (add-one i) ∙ spelled-suc k xs i h) in
+    rw before at e
+    ∙ over-over out at (at + k * i) (spelled k (take i xs)) (bytesOf k (getD xs i 0)) (ap (λ (j : ℕ). at + j) (spelled-front k i xs (omega arith)))
+    (omega (arith, bytes-length k (getD xs i 0), mul-suc k i, mul-le-mul-left k h))
+    ∙ ap (over out at) one-more
+
+-- numbers written over a list leave its length
+pub write-length : (k at i : ℕ) (xs out list : List ℕ) → i ≤ length xs → at + k * length xs ≤ length out → list ≡ over out at (spelled k (take i xs)) → length list ≡ length out
+write-length k at i xs out list h room e =
+    ap length e ∙ over-length out at (spelled k (take i xs)) (omega (arith, spelled-front k i xs h, mul-le-mul-left k h))
+
+-- four stores are one number written over a list
+pub put-four : (list : List ℕ) (at x : ℕ) → at + 4 ≤ length list
+  → set (set (set (set list at (x % 256)) (at + 1) (x / 256 % 256)) (at + 2) (x / 65536 % 256)) (at + 3) (x / 16777216 % 256) ≡ over list at (bytesOf 4 x)
+put-four list at x h =
+    let one : at + 1 ≡ suc at = omega arith in
+    let two : at + 2 ≡ suc (suc at) = omega arith in
+    let three : at + 3 ≡ suc (suc (suc at)) = omega arith in
+    let third : x / 65536 ≡ x / 256 / 256 = omega arith in
+    let fourth : x / 16777216 ≡ x / 256 / 256 / 256 = omega arith in
+    rw (one, two, three, third, fourth) (sets-eq (bytesOf 4 x) list at h)
+
+shift : (low high : ℕ) → (low + 256 * high) / 256 ≡ low / 256 + high
+shift low high = add-mul-div-left low high (lit< tt)
+
+-- the first byte of a sum, and the others
+next-byte : (k low high : ℕ) → bytesOf (suc k) (low + 256 * high) ≡ low % 256 ∷ bytesOf k (low / 256 + high)
+next-byte k low high =
+    let first : (low + 256 * high) % 256 ≡ low % 256 = omega (arith, shift low high) in
+    rw (first, shift low high) refl
+
+-- two halves are one number of eight bytes
+joined : (low high : ℕ) → low < 4294967296 → bytesOf 8 (low + 4294967296 * high) ≡ bytesOf 4 low ++ bytesOf 4 high
+joined low high h =
+    let l₁ = low / 256 in
+    let l₂ = low / 256 / 256 in
+    let l₃ = low / 256 / 256 / 256 in
+    let e₀ : low + 4294967296 * high ≡ low + 256 * (16777216 * high) = omega arith in
+    let e₁ : l₁ + 16777216 * high ≡ l₁ + 256 * (65536 * high) = omega arith in
+    let e₂ : l₂ + 65536 * high ≡ l₂ + 256 * (256 * high) = omega arith in
+    let e₄ : l₃ / 256 + high ≡ high = omega arith in
+    ap (bytesOf 8) e₀
+    ∙ next-byte 7 low (16777216 * high)
+    ∙ ap (λ (x : ℕ). low % 256 ∷ bytesOf 7 x) e₁
+    ∙ ap (λ (l : List ℕ). low % 256 ∷ l) (next-byte 6 l₁ (65536 * high))
+    ∙ ap (λ (x : ℕ). low % 256 ∷ l₁ % 256 ∷ bytesOf 6 x) e₂
+    ∙ ap (λ (l : List ℕ). low % 256 ∷ l₁ % 256 ∷ l) (next-byte 5 l₂ (256 * high))
+    ∙ ap (λ (l : List ℕ). low % 256 ∷ l₁ % 256 ∷ l₂ % 256 ∷ l) (next-byte 4 l₃ high)
+    ∙ ap (λ (x : ℕ). low % 256 ∷ l₁ % 256 ∷ l₂ % 256 ∷ l₃ % 256 ∷ bytesOf 4 x) e₄
+
+pub halves : (x : ℕ) → bytesOf 4 (x % 4294967296) ++ bytesOf 4 (x / 4294967296) ≡ bytesOf 8 x
+halves x =
+    let whole : x % 4294967296 + 4294967296 * (x / 4294967296) ≡ x = omega arith in
+    sym (joined (x % 4294967296) (x / 4294967296) (omega arith)) ∙ ap (bytesOf 8) whole

@@ -1,0 +1,70 @@
+-- `image::bytes::read_longs` meets its contract. The loop's invariant: so many numbers stand at the front. Assumes nothing.
+use native.Mathlib.Omega.{arith}
+use Prim.Native.Nat.{_-_, _≤_}
+use mathlib.Core.Path.{_≡_}
+use mathlib.Core.List.{_++_}
+use lib.ListN.{drop}
+use Rattle.image.specs.Bytes.{numbersOf}
+use Rattle.image.proofs.ByteLaws.{read-more, read-length}
+use borrow.Author.Needs.{needs}
+use Rattle.image.proofs.bytes.read_longs.Statement.{statement}
+use Rattle.image.proofs.bytes.read_longs.Tie as tie
+
+abbrev Inv-loop : tie.InvT-loop
+Inv-loop bytes at count out₀ k₀ out k = (k ≤ count) × (out ≡ numbersOf 8 k (drop at bytes) ++ drop k out₀)
+
+abbrev μ-loop : tie.MeasureT-loop
+μ-loop bytes at count out₀ k₀ out k = count - k
+
+loop-holds : tie.Need-loop-holds Inv-loop μ-loop
+loop-holds c = search needs
+
+mul-long : tie.Need-mul-long Inv-loop μ-loop
+mul-long c = search needs
+
+add-long : tie.Need-add-long Inv-loop μ-loop
+add-long c = search needs
+
+long-requires : tie.Need-long-requires Inv-loop μ-loop
+long-requires c κs = search needs
+
+mul-out : tie.Need-mul-out Inv-loop μ-loop
+mul-out c = search needs
+
+slice-write-out : tie.Need-slice-write-out Inv-loop μ-loop
+slice-write-out c = omega (arith, read-length 8 (c .before .before .loop .k) (drop (c .before .before .before .before .before .args .at) (c .before .before .before .before .before .args .bytes .now)) (c .before .before .before .before .before .args .out .now) (c .before .before .loop .out) (omega arith) (c .before .before .loop .inv .1))
+
+add-k : tie.Need-add-k Inv-loop μ-loop
+add-k c = search needs
+
+loop-less : tie.Need-loop-less Inv-loop μ-loop
+loop-less c = search needs
+
+loop-again : tie.Need-loop-again Inv-loop μ-loop
+loop-again c = (search needs,
+    read-more 8 (c .before .before .loop .k) (c .before .before .before .before .before .args .at) (c .before .before .before .before .before .args .bytes .now) (c .before .before .before .before .before .args .out .now) (c .before .before .loop .out) (c .long .result) (omega arith) (c .before .before .loop .inv .1) (c .long .ensures))
+
+same-length : tie.Need-same-length Inv-loop μ-loop
+same-length c = read-length 8 (c .before .loop .k) (drop (c .before .before .before .before .args .at) (c .before .before .before .before .args .bytes .now)) (c .before .before .before .before .args .out .now) (c .before .loop .out) (omega arith) (c .before .loop .inv .1)
+
+returns : tie.Need-returns Inv-loop μ-loop
+returns c = let all : c .before .loop .k ≡ c .before .before .before .before .args .count = omega arith in
+    rw all at (c .before .loop .inv .1)
+
+pub read-longs-spec : {M : Type 1} → statement M
+read-longs-spec =
+    tie.close
+    (tie.spec
+    Inv-loop
+    μ-loop
+    loop-holds
+    mul-long
+    add-long
+    long-requires
+    mul-out
+    slice-write-out
+    add-k
+    loop-less
+    loop-again
+    same-length
+    returns)
