@@ -2,10 +2,9 @@
 //! program, and counts. What is left of a run that ended early counts as failed.
 
 use crate::cases::{self, By, Case};
+use crate::coverage;
 use crate::examples;
-use crate::operations::OPERATIONS;
 use crate::programs::{self, LONG, SHORT};
-use crate::table::number_given;
 use std::path::Path;
 use std::sync::atomic::{AtomicUsize, Ordering};
 use std::sync::Mutex;
@@ -19,11 +18,8 @@ pub fn compare(seed: u64) -> bool {
     let cases = cases::all(seed);
     println!("seed {seed}, {} cases", cases.len());
     let mut count = Count { passed: 0, failed: 0 };
-    print_numbers(&cases);
-    for (name, fault) in every_number_and_order(&cases) {
-        count.judge(&name, fault);
-    }
-    for (name, fault) in examples::check(Path::new("examples")) {
+    for (name, fault) in [coverage::check(&cases), examples::check(Path::new("examples"))].concat()
+    {
         count.judge(&name, fault);
     }
     launcher_refuses(&mut count);
@@ -78,52 +74,6 @@ impl Count {
         println!("FAILED {cases} cases: {program} does not run, so none of its cases was asked");
         self.failed += cases;
     }
-}
-
-// ---- what the cases themselves must reach
-
-/// Prints how many cases give each number.
-fn print_numbers(cases: &[Case]) {
-    for (operation, numbers) in OPERATIONS {
-        let mut line = format!("{operation}: {} accepted", giving(cases, operation, 0));
-        for &number in numbers {
-            line += &format!(", {} refused {number}", giving(cases, operation, number));
-        }
-        println!("{line}");
-    }
-}
-
-fn giving(cases: &[Case], operation: &str, number: u32) -> usize {
-    let gives = |case: &&Case| number_given(&case.operation.faults()) == number;
-    cases.iter().filter(|case| case.operation.name() == operation).filter(gives).count()
-}
-
-/// Each operation gives each of its numbers in some cases, and each two numbers that can hold
-/// together do so in some case: otherwise their order would not be tried.
-fn every_number_and_order(cases: &[Case]) -> Vec<(String, Fault)> {
-    let mut checks = Vec::new();
-    for (operation, numbers) in OPERATIONS {
-        let faults: Vec<Vec<u32>> = cases
-            .iter()
-            .filter(|case| case.operation.name() == operation)
-            .map(|case| case.operation.faults())
-            .collect();
-        for (place, first) in numbers.iter().enumerate() {
-            let given = faults.iter().filter(|faults| number_given(faults) == *first).count();
-            let fault = (given < 5).then(|| format!("only {given} cases give it"));
-            checks.push((format!("{operation} refuses {first}"), fault));
-            for second in &numbers[place + 1..] {
-                // a row is looked at only when 1 to 3 don't hold
-                if *second == 5 && [1, 2, 3].contains(first) {
-                    continue;
-                }
-                let both = |faults: &Vec<u32>| faults.contains(first) && faults.contains(second);
-                let fault = (!faults.iter().any(both)).then(|| "no case has both".to_string());
-                checks.push((format!("{operation} refuses {first} before {second}"), fault));
-            }
-        }
-    }
-    checks
 }
 
 // ---- the programs

@@ -6,9 +6,11 @@
 //! - graphs.rs, damages.rs, limits.rs, cases.rs: what is asked
 //! - operations.rs: how it is asked, and the answers that are due
 //! - programs.rs, compare.rs: the runs, and the comparison
+//! - coverage.rs, examples.rs: that the cases reach what they must, and the files of examples/
 
 mod cases;
 mod compare;
+mod coverage;
 mod damages;
 mod examples;
 mod graphs;
