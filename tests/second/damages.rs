@@ -124,8 +124,8 @@ pub const OF_TABLE: &[Damage<Table>] = &[
         set(&mut table.counts, End::Last, 1 << 63);
     }),
     damage("two counts with the sum 2^64 + 5", |table, _| {
-        set(&mut table.counts, End::First, u64::MAX - 4);
-        set(&mut table.counts, End::Last, 10);
+        set(&mut table.counts, End::First, 10);
+        set(&mut table.counts, End::Last, u64::MAX - 4);
     }),
     damage("every count 2^64 - 1", |table, _| table.counts.fill(u64::MAX)),
     damage("no starts", |table, _| table.starts.clear()),

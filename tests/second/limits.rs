@@ -58,6 +58,7 @@ fn sums() -> Vec<Limit> {
         ("check 0 counted 7", "a count 2^64 - 1", vertices(&[u64::MAX])),
         ("check 0 counted 7", "counts that wrap to 0", vertices(&[u64::MAX, 1])),
         ("check 0 counted 7", "counts that wrap to 4", vertices(&[u64::MAX, 3, 2])),
+        ("check 0 counted 7", "counts that wrap at the last", vertices(&[3, 4, u64::MAX])),
         ("check 0 counted 7", "2,048 counts that wrap to 0", vertices(&[1 << 53; MOST_VERTICES])),
         ("check 0 counted 7", "2,048 counts 2^64 - 1", vertices(&[u64::MAX; MOST_VERTICES])),
     ]
