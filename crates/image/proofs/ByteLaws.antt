@@ -16,7 +16,7 @@ one-at bs at h = rw (add-one at) (drop-cons bs at 0 h)
 
 -- the four bytes from a place on
 four-at : (bs : List ℕ) (at : ℕ) → at + 4 ≤ length bs
-  → take 4 (drop at bs) ≡ getD bs at 0 ∷ getD bs (at + 1) 0 ∷ getD bs (at + 2) 0 ∷ getD bs (at + 3) 0 ∷ []
+    → take 4 (drop at bs) ≡ getD bs at 0 ∷ getD bs (at + 1) 0 ∷ getD bs (at + 2) 0 ∷ getD bs (at + 3) 0 ∷ []
 four-at bs at h =
     let two : at + 1 + 1 ≡ at + 2 = omega arith in
     let three : at + 2 + 1 ≡ at + 3 = omega arith in
@@ -30,12 +30,12 @@ four-at bs at h =
 
 -- the 32-bit number at a place, by its bytes
 pub word-at : (bs : List ℕ) (at : ℕ) → at + 4 ≤ length bs
-  → valueOf (take 4 (drop at bs)) ≡ getD bs at 0 + 256 * getD bs (at + 1) 0 + 65536 * getD bs (at + 2) 0 + 16777216 * getD bs (at + 3) 0
+    → valueOf (take 4 (drop at bs)) ≡ getD bs at 0 + 256 * getD bs (at + 1) 0 + 65536 * getD bs (at + 2) 0 + 16777216 * getD bs (at + 3) 0
 word-at bs at h = ap valueOf (four-at bs at h) ∙ omega arith
 
 -- the 64-bit number at a place, by its halves
 pub long-at : (bs : List ℕ) (at : ℕ) → at + 8 ≤ length bs
-  → valueOf (take 8 (drop at bs)) ≡ valueOf (take 4 (drop at bs)) + 4294967296 * valueOf (take 4 (drop (at + 4) bs))
+    → valueOf (take 8 (drop at bs)) ≡ valueOf (take 4 (drop at bs)) + 4294967296 * valueOf (take 4 (drop (at + 4) bs))
 long-at bs at h =
     let halves : take 8 (drop at bs) ≡ take 4 (drop at bs) ++ take 4 (drop (at + 4) bs) = take-add 4 4 (drop at bs) ∙ ap (λ (l : List ℕ). take 4 (drop at bs) ++ take 4 l) (drop-drop 4 at bs) in
     rw halves (rw (four-at bs at (omega arith), four-at bs (at + 4) (omega arith)) (omega arith))
@@ -59,7 +59,7 @@ front-more front list v n e h =
 
 -- one number more at the front of a slice, read from its place
 pub read-more : (k count at : ℕ) (bs out list : List ℕ) (v : ℕ) → count < length out → list ≡ numbersOf k count (drop at bs) ++ drop count out
-  → v ≡ valueOf (take k (drop (at + k * count) bs)) → set list count v ≡ numbersOf k (count + 1) (drop at bs) ++ drop (count + 1) out
+    → v ≡ valueOf (take k (drop (at + k * count) bs)) → set list count v ≡ numbersOf k (count + 1) (drop at bs) ++ drop (count + 1) out
 read-more k count at bs out list v h before e =
     let value : v ≡ valueOf (take k (drop (k * count) (drop at bs))) = e ∙ ap (λ (l : List ℕ). valueOf (take k l)) (sym (drop-drop (k * count) at bs)) in
     rw (before, value)
@@ -98,7 +98,7 @@ over-none list at = paste-zero list at []
 
 -- one after the other is both at once
 pub over-over : (list : List ℕ) (at next : ℕ) (xs ys : List ℕ) → at + length xs ≡ next → next + length ys ≤ length list
-  → over (over list at xs) next ys ≡ over list at (xs ++ ys)
+    → over (over list at xs) next ys ≡ over list at (xs ++ ys)
 over-over list at next xs ys e h =
     let front = take at list ++ xs in
     let rest = drop (at + length xs) list in
@@ -106,8 +106,8 @@ over-over list at next xs ys e h =
     let kept : take next (front ++ rest) ≡ front = take-at front rest next long in
     let sum : at + length xs + length ys ≡ at + length (xs ++ ys) = omega (arith, length-append xs ys) in
     let left : drop (next + length ys) (front ++ rest) ≡ drop (at + length (xs ++ ys)) list
-        = sym (drop-drop (length ys) next (front ++ rest)) ∙ ap (drop (length ys)) (drop-at front rest next long) ∙ drop-drop (length ys) (at + length xs) list
-          ∙ ap (λ (j : ℕ). drop j list) sum in
+    = sym (drop-drop (length ys) next (front ++ rest)) ∙ ap (drop (length ys)) (drop-at front rest next long) ∙ drop-drop (length ys) (at + length xs) list
+    ∙ ap (λ (j : ℕ). drop j list) sum in
     ap (λ (l : List ℕ). l ++ ys ++ drop (next + length ys) (front ++ rest)) kept
     ∙ ap (λ (l : List ℕ). front ++ ys ++ l) left
     ∙ ap (λ (l : List ℕ). l ++ drop (at + length (xs ++ ys)) list) (append-assoc (take at list) xs ys)
@@ -117,7 +117,7 @@ spelled-front k i xs h = spelled-length k (take i xs) ∙ ap (λ (j : ℕ). k * 
 
 -- one number more over a list
 pub write-more : (k at i : ℕ) (xs out list list′ : List ℕ) → i < length xs → at + k * length xs ≤ length out → list ≡ over out at (spelled k (take i xs))
-  → list′ ≡ over list (at + k * i) (bytesOf k (getD xs i 0)) → list′ ≡ over out at (spelled k (take (i + 1) xs))
+    → list′ ≡ over list (at + k * i) (bytesOf k (getD xs i 0)) → list′ ≡ over out at (spelled k (take (i + 1) xs))
 write-more k at i xs out list list′ h room before e =
     let one-more : spelled k (take i xs) ++ bytesOf k (getD xs i 0) ≡ spelled k (take (i + 1) xs) = sym (ap (λ (j : ℕ). spelled k (take j xs)) (add-one i) ∙ spelled-suc k xs i h) in
     rw before at e
@@ -132,7 +132,7 @@ write-length k at i xs out list h room e =
 
 -- four stores are one number written over a list
 pub put-four : (list : List ℕ) (at x : ℕ) → at + 4 ≤ length list
-  → set (set (set (set list at (x % 256)) (at + 1) (x / 256 % 256)) (at + 2) (x / 65536 % 256)) (at + 3) (x / 16777216 % 256) ≡ over list at (bytesOf 4 x)
+    → set (set (set (set list at (x % 256)) (at + 1) (x / 256 % 256)) (at + 2) (x / 65536 % 256)) (at + 3) (x / 16777216 % 256) ≡ over list at (bytesOf 4 x)
 put-four list at x h =
     let one : at + 1 ≡ suc at = omega arith in
     let two : at + 2 ≡ suc (suc at) = omega arith in

@@ -14,19 +14,19 @@ use Rattle.image.proofs.ByteLaws.{one-at, over-over, over-length}
 
 -- five stores and n make the header up to m
 nine-bytes : (list first : List ℕ) (n : ℕ) → 13 ≤ length list → first ≡ over (set (set (set (set (set list 0 83) 1 66) 2 84) 3 1) 4 0) 5 (bytesOf 4 n)
-  → first ≡ over list 0 (mark ++ bytesOf 2 1 ++ bytesOf 4 n)
+    → first ≡ over list 0 (mark ++ bytesOf 2 1 ++ bytesOf 4 n)
 nine-bytes list first n h e =
     let five : set (set (set (set (set list 0 83) 1 66) 2 84) 3 1) 4 0 ≡ over list 0 (mark ++ bytesOf 2 1) = sets-eq (mark ++ bytesOf 2 1) list 0 (omega arith) in
     rw five at e ∙ over-over list 0 5 (mark ++ bytesOf 2 1) (bytesOf 4 n) refl (omega arith)
 
 pub first-length : (list first : List ℕ) (n : ℕ) → 13 ≤ length list → first ≡ over (set (set (set (set (set list 0 83) 1 66) 2 84) 3 1) 4 0) 5 (bytesOf 4 n)
-  → length first ≡ length list
+    → length first ≡ length list
 first-length list first n h e = ap length (nine-bytes list first n h e) ∙ over-length list 0 (mark ++ bytesOf 2 1 ++ bytesOf 4 n) (omega arith)
 
 -- and m makes it whole
 pub put-header : (list first second : List ℕ) (n m : ℕ) → 13 ≤ length list
-  → first ≡ over (set (set (set (set (set list 0 83) 1 66) 2 84) 3 1) 4 0) 5 (bytesOf 4 n) → second ≡ over first 9 (bytesOf 4 m)
-  → second ≡ over list 0 (headerOf n m)
+    → first ≡ over (set (set (set (set (set list 0 83) 1 66) 2 84) 3 1) 4 0) 5 (bytesOf 4 n) → second ≡ over first 9 (bytesOf 4 m)
+    → second ≡ over list 0 (headerOf n m)
 put-header list first second n m h e f =
     rw (nine-bytes list first n h e) at f ∙ over-over list 0 9 (mark ++ bytesOf 2 1 ++ bytesOf 4 n) (bytesOf 4 m) refl (omega arith)
 
@@ -58,5 +58,5 @@ header-refused image number n m k refusal fields v =
     record {
       verdict = rw (fields .0) v;
       taken = λ e. absurd (refusal (sym (fields .0) ∙ e));
-      refused = λ _. (fields .1, fields .2)
+      refused = λ _. (fields .1, fields .2);
     }

@@ -1,2 +1,4 @@
 pub mod ByteLaws
 pub mod HeaderLaws
+pub mod ReadLaws
+pub mod WriteLaws

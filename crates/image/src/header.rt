@@ -28,6 +28,7 @@ impl Header {
     pub const VERSION: u32 = 1;
 
     pub const SIZE: usize = 13;
+
     pub const LARGEST: usize = 57_361;
 
     // The length of an image by its n and m.

@@ -1,12 +1,11 @@
 -- What the numbers of `Numbers` say where they are 0: the table is well-formed. Assumes nothing.
 use Prim.Native.Nat.{ℕ}
-use mathlib.Core.Path.{_≡_}
 use mathlib.Core.List.{List}
 use native.Mathlib.Omega.{arith}
 use Rattle.table.specs.Verdict.{Verdict}
 use Rattle.table.specs.Table.{WellFormed, Counted}
-use Rattle.table.specs.Numbers.{tableDemands, countedDemands}
-use Rattle.table.proofs.VerdictLaws.{Numbered, AllMet, accepted}
+use Rattle.table.specs.Numbers.{tableDemands, countDemands, countedDemands}
+use Rattle.table.proofs.VerdictLaws.{AllMet, accepted, first-met}
 
 -- 0 of `tableDemands`: 1 to 5 are met
 pub table-met : (starts targets : List ℕ) → Verdict (tableDemands starts targets) 0 → AllMet (tableDemands starts targets)
@@ -20,10 +19,9 @@ counted-met starts targets counts v =
     accepted (countedDemands starts targets counts)
     ((λ e. omega arith), ((λ e. omega arith), ((λ e. omega arith), ((λ e. omega arith), ((λ e. omega arith), ((λ e. omega arith), ((λ e. omega arith), tt))))))) v
 
--- starts and targets that are given 0 are well-formed
-pub well-formed : (starts targets : List ℕ) → Verdict (tableDemands starts targets) 0 → WellFormed starts targets
-well-formed starts targets v =
-    let met = table-met starts targets v in
+-- starts and targets that meet 1 to 5 are well-formed
+table-well-formed : (starts targets : List ℕ) → AllMet (tableDemands starts targets) → WellFormed starts targets
+table-well-formed starts targets met =
     record {
       some = met .0 .0;
       most-vertices = met .0 .1;
@@ -31,4 +29,18 @@ well-formed starts targets v =
       starts-fit = met .1 .1 .0;
       targets-below = met .1 .1 .1 .0;
       rows-rise = met .1 .1 .1 .1 .0;
+    }
+
+-- starts and targets that are given 0 are well-formed
+pub well-formed : (starts targets : List ℕ) → Verdict (tableDemands starts targets) 0 → WellFormed starts targets
+well-formed starts targets v = table-well-formed starts targets (table-met starts targets v)
+
+-- starts, targets and counts that are given 0 are well-formed
+pub counted : (starts targets counts : List ℕ) → Verdict (countedDemands starts targets counts) 0 → Counted starts targets counts
+counted starts targets counts v =
+    let met = counted-met starts targets counts v in
+    record {
+      well-formed = table-well-formed starts targets (first-met (tableDemands starts targets) (countDemands starts counts) met);
+      count-each = met .1 .1 .1 .1 .1 .0;
+      sum-fits = met .1 .1 .1 .1 .1 .1 .0;
     }

@@ -51,3 +51,15 @@ pub stops : (first rest : List Demand) (r : ℕ) → (r ≡ 0 → ⊥) → Verdi
 stops [] rest r refused v = absurd (refused v)
 stops (d ∷ first) rest r refused (inl v) = inl v
 stops (d ∷ first) rest r refused (inr v) = inr (v .0, stops first rest r refused (v .1))
+
+-- a demand that is met may be left out
+pub met-is-passed : (first : List Demand) (d : Demand) (rest : List Demand) (r : ℕ) → d .met → Verdict (first ++ d ∷ rest) r → Verdict (first ++ rest) r
+met-is-passed [] d rest r met (inl v) = absurd (v .0 met)
+met-is-passed [] d rest r met (inr v) = v .1
+met-is-passed (f ∷ first) d rest r met (inl v) = inl v
+met-is-passed (f ∷ first) d rest r met (inr v) = inr (v .0, met-is-passed first d rest r met (v .1))
+
+-- of demands that are all met, the first ones are
+pub first-met : (first rest : List Demand) → AllMet (first ++ rest) → AllMet first
+first-met [] rest met = tt
+first-met (d ∷ first) rest met = (met .0, first-met first rest (met .1))

@@ -41,8 +41,10 @@ loop-less : tie.Need-loop-less Inv-loop μ-loop
 loop-less c = search needs
 
 loop-again : tie.Need-loop-again Inv-loop μ-loop
-loop-again c = (search needs,
-    read-more 4 (c .before .before .loop .k) (c .before .before .before .before .before .args .at) (c .before .before .before .before .before .args .bytes .now) (c .before .before .before .before .before .args .out .now) (c .before .before .loop .out) (c .word .result) (omega arith) (c .before .before .loop .inv .1) (c .word .ensures))
+loop-again c = (
+  search needs,
+  read-more 4 (c .before .before .loop .k) (c .before .before .before .before .before .args .at) (c .before .before .before .before .before .args .bytes .now) (c .before .before .before .before .before .args .out .now) (c .before .before .loop .out) (c .word .result) (omega arith) (c .before .before .loop .inv .1) (c .word .ensures),
+)
 
 same-length : tie.Need-same-length Inv-loop μ-loop
 same-length c = read-length 4 (c .before .loop .k) (drop (c .before .before .before .before .args .at) (c .before .before .before .before .args .bytes .now)) (c .before .before .before .before .args .out .now) (c .before .loop .out) (omega arith) (c .before .loop .inv .1)
@@ -68,4 +70,3 @@ read-words-spec =
     loop-again
     same-length
     returns)
-

@@ -41,8 +41,10 @@ loop-less : tie.Need-loop-less Inv-loop μ-loop
 loop-less c = search needs
 
 loop-again : tie.Need-loop-again Inv-loop μ-loop
-loop-again c = (search needs,
-    write-more 4 (c .before .before .before .before .before .before .before .before .before .args .at) (c .before .before .before .before .before .before .loop .k) (c .before .before .before .before .before .before .before .before .before .args .numbers .now) (c .before .before .before .before .before .before .before .before .before .args .out .now) (c .before .before .before .before .before .before .loop .out) (c .before .before .put-word .last .0) (omega arith) (c .before .before .before .before .before .before .before .before .before .pre) (c .before .before .before .before .before .before .loop .inv .1) (c .before .before .put-word .ensures))
+loop-again c = (
+  search needs,
+  write-more 4 (c .before .before .before .before .before .before .before .before .before .args .at) (c .before .before .before .before .before .before .loop .k) (c .before .before .before .before .before .before .before .before .before .args .numbers .now) (c .before .before .before .before .before .before .before .before .before .args .out .now) (c .before .before .before .before .before .before .loop .out) (c .before .before .put-word .last .0) (omega arith) (c .before .before .before .before .before .before .before .before .before .pre) (c .before .before .before .before .before .before .loop .inv .1) (c .before .before .put-word .ensures),
+)
 
 same-length : tie.Need-same-length Inv-loop μ-loop
 same-length c = write-length 4 (c .before .before .before .before .args .at) (c .before .loop .k) (c .before .before .before .before .args .numbers .now) (c .before .before .before .before .args .out .now) (c .before .loop .out) (omega arith) (c .before .before .before .before .pre) (c .before .loop .inv .1)
@@ -68,4 +70,3 @@ write-words-spec =
     loop-again
     same-length
     returns)
-

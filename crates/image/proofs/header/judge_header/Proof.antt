@@ -135,13 +135,16 @@ refused-requires-8 c κs = search needs
 
 returns-8 : tie.Need-returns-8
 returns-8 c = header-refused (c .before .before .before .before .before .before .before .before .before .before .before .before .before .before .before .before .before .before .before .before .args .image .now) (c .refused8 .result .number) (c .refused8 .result .vertices) (c .refused8 .result .edges) 12 (λ e. omega arith) (c .refused8 .ensures)
-    (inr
-    (is-marked (c .before .before .before .before .before .before .before .before .before .before .before .before),
-    inr
-    (is-version-one (c .before .before .before .before .before .before .before),
-    inr
-    (has-few-vertices (c .before .before .before .before .before),
-    inr (has-few-edges (c .before .before .before), inl ((λ met. c .before .if8 .taken (met ∙ sym (length-is (c .before .before)))), refl))))))
+    (inr (
+      is-marked (c .before .before .before .before .before .before .before .before .before .before .before .before),
+      inr (
+        is-version-one (c .before .before .before .before .before .before .before),
+        inr (
+          has-few-vertices (c .before .before .before .before .before),
+          inr (has-few-edges (c .before .before .before), inl ((λ met. c .before .if8 .taken (met ∙ sym (length-is (c .before .before)))), refl)),
+        ),
+      ),
+    ))
 
 cast-t4 : tie.Need-cast-t4
 cast-t4 c = search needs
@@ -151,17 +154,20 @@ cast-t26 c = search needs
 
 returns-9 : tie.Need-returns-9
 returns-9 c = record {
-      verdict =
-        inr
-        (is-marked (c .before .before .before .before .before .before .before .before .before .before .before),
-        inr
-        (is-version-one (c .before .before .before .before .before .before),
-        inr
-        (has-few-vertices (c .before .before .before .before),
-        inr (has-few-edges (c .before .before), inr (c .if8 .left ∙ length-is (c .before), refl)))));
-      taken = λ _. (c .before .before .before .before .before .word .ensures, c .before .before .before .word2 .ensures);
-      refused = λ wrong. absurd (wrong refl)
-    }
+  verdict =
+      inr (
+        is-marked (c .before .before .before .before .before .before .before .before .before .before .before),
+        inr (
+          is-version-one (c .before .before .before .before .before .before),
+          inr (
+            has-few-vertices (c .before .before .before .before),
+            inr (has-few-edges (c .before .before), inr (c .if8 .left ∙ length-is (c .before), refl)),
+          ),
+        ),
+      );
+  taken = λ _. (c .before .before .before .before .before .word .ensures, c .before .before .before .word2 .ensures);
+  refused = λ wrong. absurd (wrong refl);
+}
 
 pub judge-header-spec : {M : Type 1} → statement M
 judge-header-spec =
