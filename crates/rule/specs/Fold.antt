@@ -1,0 +1,80 @@
+-- Document 01's fold as a definition over any graph with counts: candidates, sets, kept paths and sums are those of the graph handed in.
+-- Which superbubbles are candidates, what is kept and how the dropped counts are shared are arguments; `Candidate` and `first-takes-all` are document 01's.
+-- Assumes nothing.
+use Prim.Native.Nat.{ℕ, zero, suc, _+_, _<_}
+use mathlib.Core.Path.{_≡_}
+use mathlib.Core.Logic.{_↔_}
+use mathlib.Core.List.{List, [], _∷_, _++_, map, List·Memᴰ}
+use lib.ListN.{length, take, getD}
+use Rattle.bubble.specs.Superbubble.{F, Interior, Outermost}
+use Rattle.rule.specs.Lists.{Graph, Counts, Listing, sum, Follows}
+use Rattle.rule.specs.Kept.{Kept}
+
+-- document 01's candidates: the outermost superbubbles with an interior
+pub record Candidate (E : Graph) (s t : ℕ) : Type 0 where
+  pub outermost : Outermost E s t
+  pub interior : (v : ℕ) × Interior E s t v
+
+-- what a rule keeps, and how much of a dropped sum d the place j of k kept inner vertices gets
+pub record Rule : Type 1 where
+  pub keeps : Graph → Counts → ℕ → ℕ → List ℕ → Type 0
+  pub portion : ℕ → ℕ → ℕ → ℕ
+
+-- all of it to the vertex after the entrance
+abbrev pub to-first : ℕ → ℕ → ℕ → ℕ
+to-first d k zero = d
+to-first d k (suc j) = 0
+
+-- document 01's rule
+abbrev pub first-takes-all : Rule
+first-takes-all = record { keeps = Kept; portion = to-first }
+
+-- a vertex that is the entrance of a candidate
+abbrev pub Entrance : (Graph → ℕ → ℕ → Type 0) → Graph → ℕ → Type 0
+Entrance C E s = (t : ℕ) × C E s t
+
+-- one folded superbubble: the inner vertices of the kept path, and the rest of the interior
+pub record Item : Type 0 where
+  pub entrance : ℕ
+  pub exit : ℕ
+  pub arm : List ℕ
+  pub dropped : List ℕ
+
+-- of the edges with both ends in U, only those from one vertex of the kept path to the next stay
+abbrev pub Stays : Graph → ℕ → ℕ → List ℕ → ℕ → ℕ → Type 0
+Stays E s t arm u v = F E s t u → F E s t v → Follows (s ∷ arm ++ (t ∷ [])) u v
+
+module _ (C : Graph → ℕ → ℕ → Type 0) (R : Rule) where
+  -- the item is that of a candidate: its arm is kept, the rest of the interior is dropped
+  pub record Fits (E : Graph) (c : Counts) (i : Item) : Type 0 where
+    pub candidate : C E (i .entrance) (i .exit)
+    pub kept : R .keeps E c (i .entrance) (i .exit) (i .arm)
+    pub rest : Listing (λ v. Interior E (i .entrance) (i .exit) v × (List·Memᴰ v (i .arm) → ⊥)) (i .dropped)
+
+  -- the first candidates of E by rising entrance, as many as the budget or all if fewer, are folded
+  pub record Applied (E : Graph) (c : Counts) (budget : ℕ) (E′ : Graph) (c′ : Counts) : Type 0 where
+    pub candidates : List ℕ
+    pub listed : Listing (Entrance C E) candidates
+    pub items : List Item
+    pub first : map (λ (i : Item). i .entrance) items ≡ take budget candidates
+    pub fit : (i : Item) → List·Memᴰ i items → Fits E c i
+    -- every edge that does not have both its ends in one folded U stays
+    pub edges : (u v : ℕ) → E′ u v ↔ (E u v × ((i : Item) → List·Memᴰ i items → Stays E (i .entrance) (i .exit) (i .arm) u v))
+    -- the counts of the dropped vertices are added to the kept ones
+    pub added : (i : Item) → List·Memᴰ i items → (j : ℕ) → j < length (i .arm) → c′ (getD (i .arm) j 0) ≡ c (getD (i .arm) j 0) + R .portion (sum c (i .dropped)) (length (i .arm)) j
+    -- a dropped vertex has count 0; that it has no edge follows
+    pub emptied : (i : Item) → List·Memᴰ i items → (v : ℕ) → List·Memᴰ v (i .dropped) → c′ v ≡ 0
+    -- a vertex interior to no folded superbubble keeps its count
+    pub untouched : (v : ℕ) → ((i : Item) → List·Memᴰ i items → Interior E (i .entrance) (i .exit) v → ⊥) → c′ v ≡ c v
+
+  -- and what is returned: how many were folded, and how many candidates remain in the new graph
+  pub record Folded (E : Graph) (c : Counts) (budget : ℕ) (E′ : Graph) (c′ : Counts) (folded left : ℕ) : Type 0 where
+    pub applied : Applied E c budget E′ c′
+    pub how-many : folded ≡ length (applied .items)
+    pub remaining : (l : List ℕ) × Listing (Entrance C E′) l × (left ≡ length l)
+
+  -- folding with one or more budgets in turn, each on what the last left
+  pub data InTurn : Graph → Counts → List ℕ → Graph → Counts → Type 1 where
+    once : {E E′ : Graph} {c c′ : Counts} {budget folded left : ℕ} → Folded E c budget E′ c′ folded left → InTurn E c (budget ∷ []) E′ c′
+    then : {E E′ E″ : Graph} {c c′ c″ : Counts} {budget folded left : ℕ} {budgets : List ℕ}
+        → Folded E c budget E′ c′ folded left → InTurn E′ c′ budgets E″ c″ → InTurn E c (budget ∷ budgets) E″ c″
