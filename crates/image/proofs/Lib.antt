@@ -1,4 +1,9 @@
+pub mod BackAndForth
 pub mod ByteLaws
+pub mod Determined
 pub mod HeaderLaws
+pub mod ImageBack
 pub mod ReadLaws
+pub mod RoundTrip
+pub mod TableBack
 pub mod WriteLaws

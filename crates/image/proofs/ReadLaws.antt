@@ -146,3 +146,11 @@ module _ (image starts targets counts : List ℕ) (number n m : ℕ) where
         );
         refused = λ wrong. absurd (wrong e);
       }
+
+  -- an accepted reading met all that was asked
+  pub read-met : (starts′ targets′ counts′ : List ℕ) → Read image starts targets counts starts′ targets′ counts′ number n m → number ≡ 0
+    → AllMet (headerDemands image ++ bodyDemands image ++ readRoom image starts targets counts ∷ [])
+  read-met starts′ targets′ counts′ read e =
+      accepted (headerDemands image ++ bodyDemands image ++ readRoom image starts targets counts ∷ [])
+      ((λ e. omega arith), ((λ e. omega arith), ((λ e. omega arith), ((λ e. omega arith), ((λ e. omega arith), ((λ e. omega arith), ((λ e. omega arith), ((λ e. omega arith), ((λ e. omega arith), ((λ e. omega arith), tt))))))))))
+      (rw e at (read .verdict))

@@ -8,7 +8,7 @@ use lib.ListN.{length, drop, length-append}
 use Rattle.table.specs.Verdict.{Verdict}
 use Rattle.table.specs.Table.{vertices}
 use Rattle.table.specs.Numbers.{countedDemands}
-use Rattle.table.proofs.VerdictLaws.{AllMet, goes-on, stops}
+use Rattle.table.proofs.VerdictLaws.{AllMet, accepted, goes-on, stops}
 use Rattle.table.proofs.Accepted.{counted-met}
 use Rattle.image.specs.Bytes.{spelled, over}
 use Rattle.image.specs.Image.{headerOf, imageLength, imageOf}
@@ -80,3 +80,11 @@ module _ (starts targets counts image : List ℕ) where
         taken = λ _. (e, rw e whole);
         refused = λ wrong. absurd (wrong refl);
       }
+
+  -- an accepted writing met all that was asked
+  pub write-met : (image′ : List ℕ) (number size : ℕ) → Written starts targets counts image image′ number size → number ≡ 0
+    → AllMet (countedDemands starts targets counts ++ writeRoom starts targets image ∷ [])
+  write-met image′ number size written e =
+      accepted (countedDemands starts targets counts ++ writeRoom starts targets image ∷ [])
+      ((λ e. omega arith), ((λ e. omega arith), ((λ e. omega arith), ((λ e. omega arith), ((λ e. omega arith), ((λ e. omega arith), ((λ e. omega arith), ((λ e. omega arith), tt))))))))
+      (rw e at (written .verdict))

@@ -35,12 +35,22 @@ table-well-formed starts targets met =
 pub well-formed : (starts targets : List ℕ) → Verdict (tableDemands starts targets) 0 → WellFormed starts targets
 well-formed starts targets v = table-well-formed starts targets (table-met starts targets v)
 
--- starts, targets and counts that are given 0 are well-formed
-pub counted : (starts targets counts : List ℕ) → Verdict (countedDemands starts targets counts) 0 → Counted starts targets counts
-counted starts targets counts v =
-    let met = counted-met starts targets counts v in
+-- starts, targets and counts that meet 1 to 7 are well-formed
+pub met-counted : (starts targets counts : List ℕ) → AllMet (countedDemands starts targets counts) → Counted starts targets counts
+met-counted starts targets counts met =
     record {
       well-formed = table-well-formed starts targets (first-met (tableDemands starts targets) (countDemands starts counts) met);
       count-each = met .1 .1 .1 .1 .1 .0;
-      sum-fits = met .1 .1 .1 .1 .1 .1 .0;
+      sum-fits = met .1 .1 .1 .1 .1 .1 .0
     }
+
+-- and well-formed ones meet them
+pub counted-meets : (starts targets counts : List ℕ) → Counted starts targets counts → AllMet (countedDemands starts targets counts)
+counted-meets starts targets counts ok =
+    let table = ok .well-formed in
+    ((table .some, table .most-vertices),
+    (table .most-edges, (table .starts-fit, (table .targets-below, (table .rows-rise, (ok .count-each, (ok .sum-fits, tt)))))))
+
+-- starts, targets and counts that are given 0 are well-formed
+pub counted : (starts targets counts : List ℕ) → Verdict (countedDemands starts targets counts) 0 → Counted starts targets counts
+counted starts targets counts v = met-counted starts targets counts (counted-met starts targets counts v)

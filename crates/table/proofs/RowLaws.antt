@@ -15,13 +15,17 @@ climb starts m fit v (suc k) h =
     let here : v + suc k ≡ (v + k) + 1 = omega arith in
     rw here (le-trans (climb starts m fit v k (omega arith)) (fit .climbs (v + k) (omega arith)))
 
+-- no start is above the last
+pub start-most : (starts : List ℕ) (m : ℕ) → StartsFit starts m → (v : ℕ) → v < length starts → getD starts v 0 ≤ m
+start-most starts m fit v h =
+    let last : v + (length starts - 1 - v) ≡ length starts - 1 = omega arith in
+    rw (← fit .ends) (rw last at (climb starts m fit v (length starts - 1 - v) (omega arith)))
+
 -- the row of each vertex lies within the targets
 pub row-lies : (starts targets : List ℕ) → StartsFit starts (length targets) → (v : ℕ) → v < vertices starts → RowLies starts targets v
 row-lies starts targets fit v h =
-    let last : (v + 1) + (length starts - 1 - (v + 1)) ≡ length starts - 1 = omega arith in
-    let up = climb starts (length targets) fit (v + 1) (length starts - 1 - (v + 1)) (omega arith) in
     record {
       vertex = omega arith;
       ordered = fit .climbs v (omega arith);
-      within = rw (← fit .ends) (rw last at up);
+      within = start-most starts (length targets) fit (v + 1) (omega arith)
     }

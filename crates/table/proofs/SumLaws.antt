@@ -22,3 +22,7 @@ pub passed-least : (v : ℕ) (xs : List ℕ) → countSum (take v xs) ≤ countS
 passed-least zero xs = zero-le
 passed-least (suc v) [] = zero-le
 passed-least (suc v) (x ∷ xs) = omega (arith, passed-least v xs)
+
+-- no count is above the sum
+pub count-most : (xs : List ℕ) (v : ℕ) → v < length xs → getD xs v 0 ≤ countSum xs
+count-most xs v h = omega (arith, passed-more xs v h, passed-least (v + 1) xs)

@@ -41,6 +41,11 @@ accepted [] n v = tt
 accepted (d ∷ rest) n (inl v) = absurd (n .0 (sym (v .1)))
 accepted (d ∷ rest) n (inr v) = (v .0, accepted rest (n .1) (v .1))
 
+-- where each demand is met the number is 0
+pub accepts : (demands : List Demand) → AllMet demands → Verdict demands 0
+accepts [] met = refl
+accepts (d ∷ rest) met = inr (met .0, accepts rest (met .1))
+
 -- where the first demands are met, the number is that of the rest
 pub goes-on : (first rest : List Demand) (r : ℕ) → AllMet first → Verdict rest r → Verdict (first ++ rest) r
 goes-on [] rest r met v = v
