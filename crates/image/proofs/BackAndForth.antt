@@ -27,7 +27,7 @@ numbers-of-spelled k (x ∷ xs) rest below =
     let joined : bytes ++ spelled k xs ++ rest ≡ bytes ++ (spelled k xs ++ rest) = append-assoc bytes (spelled k xs) rest in
     let one : valueOf (take k (bytes ++ after)) ≡ x = ap valueOf (take-at bytes after k (bytes-length k x)) ∙ value-of-bytes k x (below 0 (suc-le-suc zero-le)) in
     let others : numbersOf k (length xs) (drop k (bytes ++ after)) ≡ xs
-        = ap (numbersOf k (length xs)) (drop-at bytes after k (bytes-length k x)) ∙ numbers-of-spelled k xs rest (λ j h. below (suc j) (suc-le-suc h)) in
+    = ap (numbersOf k (length xs)) (drop-at bytes after k (bytes-length k x)) ∙ numbers-of-spelled k xs rest (λ j h. below (suc j) (suc-le-suc h)) in
     rw joined (ap (λ (y : ℕ). y ∷ numbersOf k (length xs) (drop k (bytes ++ after))) one ∙ ap (λ (l : List ℕ). x ∷ l) others)
 
 -- bytes read as a number are spelled as themselves
@@ -60,5 +60,5 @@ spelled-of-numbers k (suc count) bs h below =
     let sum : k * suc count ≡ k + k * count = omega (arith, mul-suc k count) in
     let one : bytesOf k (valueOf (take k bs)) ≡ take k bs = bytes-of-front k bs (omega arith) below in
     let others : spelled k (numbersOf k count (drop k bs)) ≡ take (k * count) (drop k bs)
-        = spelled-of-numbers k count (drop k bs) (omega (arith, length-drop k bs)) (rest-below 256 k bs below) in
+    = spelled-of-numbers k count (drop k bs) (omega (arith, length-drop k bs)) (rest-below 256 k bs below) in
     rw (sum, one, others) (sym (take-add k (k * count) bs))

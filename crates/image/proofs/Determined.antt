@@ -11,11 +11,11 @@ use Rattle.image.specs.Contracts.{headerDemands, bodyDemands, readRoom, 
 
 -- two readings of one image into slices that held the same
 pub read-determined : (image starts targets counts : List ℕ) (starts₁ targets₁ counts₁ starts₂ targets₂ counts₂ : List ℕ) (number₁ n₁ m₁ number₂ n₂ m₂ : ℕ)
-  → Read image starts targets counts starts₁ targets₁ counts₁ number₁ n₁ m₁ → Read image starts targets counts starts₂ targets₂ counts₂ number₂ n₂ m₂
-  → (number₁ ≡ number₂) × (n₁ ≡ n₂) × (m₁ ≡ m₂) × (starts₁ ≡ starts₂) × (targets₁ ≡ targets₂) × (counts₁ ≡ counts₂)
+    → Read image starts targets counts starts₁ targets₁ counts₁ number₁ n₁ m₁ → Read image starts targets counts starts₂ targets₂ counts₂ number₂ n₂ m₂
+    → (number₁ ≡ number₂) × (n₁ ≡ n₂) × (m₁ ≡ m₂) × (starts₁ ≡ starts₂) × (targets₁ ≡ targets₂) × (counts₁ ≡ counts₂)
 read-determined image starts targets counts starts₁ targets₁ counts₁ starts₂ targets₂ counts₂ number₁ n₁ m₁ number₂ n₂ m₂ a b =
     let same : number₁ ≡ number₂
-        = verdict-unique (headerDemands image ++ bodyDemands image ++ readRoom image starts targets counts ∷ []) number₁ number₂ (a .verdict) (b .verdict) in
+    = verdict-unique (headerDemands image ++ bodyDemands image ++ readRoom image starts targets counts ∷ []) number₁ number₂ (a .verdict) (b .verdict) in
     elim (ℕ-discrete number₁ 0) [
       | yes e ↦
           let x = a .taken e in
@@ -31,11 +31,11 @@ read-determined image starts targets counts starts₁ targets₁ counts₁ start
 
 -- two writings of one table into slices that held the same
 pub write-determined : (starts targets counts image image₁ image₂ : List ℕ) (number₁ size₁ number₂ size₂ : ℕ)
-  → Written starts targets counts image image₁ number₁ size₁ → Written starts targets counts image image₂ number₂ size₂
-  → (number₁ ≡ number₂) × (size₁ ≡ size₂) × (image₁ ≡ image₂)
+    → Written starts targets counts image image₁ number₁ size₁ → Written starts targets counts image image₂ number₂ size₂
+    → (number₁ ≡ number₂) × (size₁ ≡ size₂) × (image₁ ≡ image₂)
 write-determined starts targets counts image image₁ image₂ number₁ size₁ number₂ size₂ a b =
     let same : number₁ ≡ number₂
-        = verdict-unique (countedDemands starts targets counts ++ writeRoom starts targets image ∷ []) number₁ number₂ (a .verdict) (b .verdict) in
+    = verdict-unique (countedDemands starts targets counts ++ writeRoom starts targets image ∷ []) number₁ number₂ (a .verdict) (b .verdict) in
     elim (ℕ-discrete number₁ 0) [
       | yes e ↦
           let x = a .taken e in

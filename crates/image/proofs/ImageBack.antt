@@ -28,16 +28,16 @@ module _ (image : List ℕ) (met : AllMet (headerDemands image ++ bodyDemands im
   table-counted =
       record {
         well-formed =
-          record {
-            some = omega (arith, starts-long);
-            most-vertices = omega (arith, starts-long, met .1 .1 .0);
-            most-edges = omega (arith, targets-long, met .1 .1 .1 .0);
-            starts-fit = met .1 .1 .1 .1 .1 .0;
-            targets-below = met .1 .1 .1 .1 .1 .1 .0;
-            rows-rise = met .1 .1 .1 .1 .1 .1 .1 .0
-          };
+            record {
+              some = omega (arith, starts-long);
+              most-vertices = omega (arith, starts-long, met .1 .1 .0);
+              most-edges = omega (arith, targets-long, met .1 .1 .1 .0);
+              starts-fit = met .1 .1 .1 .1 .1 .0;
+              targets-below = met .1 .1 .1 .1 .1 .1 .0;
+              rows-rise = met .1 .1 .1 .1 .1 .1 .1 .0;
+            };
         count-each = omega (arith, starts-long, counts-long);
-        sum-fits = met .1 .1 .1 .1 .1 .1 .1 .1 .0
+        sum-fits = met .1 .1 .1 .1 .1 .1 .1 .1 .0;
       }
 
   -- a front, and the bytes right behind it
@@ -49,11 +49,11 @@ module _ (image : List ℕ) (met : AllMet (headerDemands image ++ bodyDemands im
     header-back =
         let long = met .1 .1 .1 .1 .0 in
         let version : bytesOf 2 1 ≡ take 2 (drop 3 image)
-            = ap (bytesOf 2) (sym (met .1 .0)) ∙ bytes-of-front 2 (drop 3 image) (omega (arith, length-drop 3 image)) (rest-below 256 3 image bytes) in
+        = ap (bytesOf 2) (sym (met .1 .0)) ∙ bytes-of-front 2 (drop 3 image) (omega (arith, length-drop 3 image)) (rest-below 256 3 image bytes) in
         let n : bytesOf 4 (verticesOf image) ≡ take 4 (drop 5 image)
-            = bytes-of-front 4 (drop 5 image) (omega (arith, length-drop 5 image)) (rest-below 256 5 image bytes) in
+        = bytes-of-front 4 (drop 5 image) (omega (arith, length-drop 5 image)) (rest-below 256 5 image bytes) in
         let m : bytesOf 4 (edgesOf image) ≡ take 4 (drop 9 image)
-            = bytes-of-front 4 (drop 9 image) (omega (arith, length-drop 9 image)) (rest-below 256 9 image bytes) in
+        = bytes-of-front 4 (drop 9 image) (omega (arith, length-drop 9 image)) (rest-below 256 9 image bytes) in
         ap (λ (l : List ℕ). l ++ bytesOf 2 1 ++ bytesOf 4 (verticesOf image) ++ bytesOf 4 (edgesOf image)) (sym (met .0 .1))
         ∙ ap (λ (l : List ℕ). l ++ bytesOf 4 (verticesOf image) ++ bytesOf 4 (edgesOf image)) (joined 3 2 (bytesOf 2 1) version)
         ∙ ap (λ (l : List ℕ). l ++ bytesOf 4 (edgesOf image)) (joined 5 4 (bytesOf 4 (verticesOf image)) n)
@@ -72,9 +72,9 @@ module _ (image : List ℕ) (met : AllMet (headerDemands image ++ bodyDemands im
         let m = edgesOf image in
         let long : length image ≡ imageLength n m = met .1 .1 .1 .1 .0 in
         let sizes : headerOf (vertices (startsOf image)) (length (targetsOf image)) ≡ headerOf n m
-            = ap (λ (k : ℕ). headerOf (k - 1) (length (targetsOf image))) starts-long
-              ∙ ap (λ (k : ℕ). headerOf k (length (targetsOf image))) (omega arith)
-              ∙ ap (headerOf n) targets-long in
+        = ap (λ (k : ℕ). headerOf (k - 1) (length (targetsOf image))) starts-long
+        ∙ ap (λ (k : ℕ). headerOf k (length (targetsOf image))) (omega arith)
+        ∙ ap (headerOf n) targets-long in
         ap (λ (l : List ℕ). l ++ spelled 4 (startsOf image) ++ spelled 4 (targetsOf image) ++ spelled 8 (countsOf image)) (sizes ∙ header-back)
         ∙ ap (λ (l : List ℕ). l ++ spelled 4 (targetsOf image) ++ spelled 8 (countsOf image)) (run-back 4 (n + 1) 13 (omega arith))
         ∙ ap (λ (l : List ℕ). l ++ spelled 8 (countsOf image)) (run-back 4 m (13 + 4 * (n + 1)) (omega arith))

@@ -11,7 +11,7 @@ use Rattle.table.specs.Numbers.{someStarts, fewTargets, startsFit, targetsBelow
 use Rattle.table.proofs.VerdictLaws.{AllMet, accepted, goes-on, stops, met-is-passed, first-met}
 use Rattle.image.specs.Bytes.{numbersOf}
 use Rattle.image.specs.Image.{imageLength, verticesOf, edgesOf, startsOf, targetsOf, countsOf}
-use Rattle.image.specs.Contracts.{headerDemands, bodyDemands, readRoom, HeaderJudged, Judged, Read}
+use Rattle.image.specs.Contracts.{headerDemands, bodyDemands, readRoom, Laid, HeaderJudged, Judged, Read}
 use Rattle.image.proofs.ByteLaws.{numbers-length}
 
 -- what an accepted header says of its image
@@ -56,12 +56,6 @@ body-verdict image r met v =
 front-is : (k count : ℕ) (bs out list : List ℕ) → list ≡ numbersOf k count bs ++ drop count out → take count list ≡ numbersOf k count bs
 front-is k count bs out list e = ap (take count) e ∙ take-at (numbersOf k count bs) (drop count out) count (numbers-length k count bs)
 
--- slices with the numbers of an image at their fronts hold its table
-pub record Laid (image : List ℕ) (n m : ℕ) (starts targets counts starts′ targets′ counts′ : List ℕ) : Type 0 where
-  pub starts-read : starts′ ≡ numbersOf 4 (n + 1) (drop 13 image) ++ drop (n + 1) starts
-  pub targets-read : targets′ ≡ numbersOf 4 m (drop (13 + 4 * (n + 1)) image) ++ drop m targets
-  pub counts-read : counts′ ≡ numbersOf 8 n (drop (13 + 4 * (n + 1) + 4 * m) image) ++ drop n counts
-
 module _ (image : List ℕ) (n m : ℕ) (starts targets counts starts′ targets′ counts′ : List ℕ) (sound : Sound image n m)
     (laid : Laid image n m starts targets counts starts′ targets′ counts′) where
   -- what the table's check says of the fronts it says of the image's table
@@ -70,9 +64,9 @@ module _ (image : List ℕ) (n m : ℕ) (starts targets counts starts′ targets
   laid-verdict r v =
       rw (← sound .vertices, ← sound .edges)
       (rw (
-        front-is 4 (n + 1) (drop 13 image) starts starts′ (laid .starts-read),
-        front-is 4 m (drop (13 + 4 * (n + 1)) image) targets targets′ (laid .targets-read),
-        front-is 8 n (drop (13 + 4 * (n + 1) + 4 * m) image) counts counts′ (laid .counts-read),
+        front-is 4 (n + 1) (drop 13 image) starts starts′ (laid .starts-laid),
+        front-is 4 m (drop (13 + 4 * (n + 1)) image) targets targets′ (laid .targets-laid),
+        front-is 8 n (drop (13 + 4 * (n + 1) + 4 * m) image) counts counts′ (laid .counts-laid),
       ) at v)
 
 -- a header that is refused is the image's refusal
@@ -140,16 +134,16 @@ module _ (image starts targets counts : List ℕ) (number n m : ℕ) where
         taken = λ _. (
           sound .vertices,
           sound .edges,
-          rw (← sound .vertices) (laid .starts-read),
-          rw (← sound .vertices, ← sound .edges) (laid .targets-read),
-          rw (← sound .vertices, ← sound .edges) (laid .counts-read),
+          rw (← sound .vertices) (laid .starts-laid),
+          rw (← sound .vertices, ← sound .edges) (laid .targets-laid),
+          rw (← sound .vertices, ← sound .edges) (laid .counts-laid),
         );
         refused = λ wrong. absurd (wrong e);
       }
 
   -- an accepted reading met all that was asked
   pub read-met : (starts′ targets′ counts′ : List ℕ) → Read image starts targets counts starts′ targets′ counts′ number n m → number ≡ 0
-    → AllMet (headerDemands image ++ bodyDemands image ++ readRoom image starts targets counts ∷ [])
+      → AllMet (headerDemands image ++ bodyDemands image ++ readRoom image starts targets counts ∷ [])
   read-met starts′ targets′ counts′ read e =
       accepted (headerDemands image ++ bodyDemands image ++ readRoom image starts targets counts ∷ [])
       ((λ e. omega arith), ((λ e. omega arith), ((λ e. omega arith), ((λ e. omega arith), ((λ e. omega arith), ((λ e. omega arith), ((λ e. omega arith), ((λ e. omega arith), ((λ e. omega arith), ((λ e. omega arith), tt))))))))))

@@ -49,7 +49,7 @@ module _ (starts targets counts : List ℕ) (ok : Counted starts targets counts)
       sym (drop-drop (4 * (verticesOf (imageOf starts targets counts) + 1)) 13 (imageOf starts targets counts))
       ∙ ap (drop (4 * (verticesOf (imageOf starts targets counts) + 1))) body
       ∙ drop-at (spelled 4 starts) (spelled 4 targets ++ spelled 8 counts) (4 * (verticesOf (imageOf starts targets counts) + 1))
-        (omega (arith, spelled-length 4 starts, vertices-back))
+      (omega (arith, spelled-length 4 starts, vertices-back))
 
   pub targets-back : targetsOf (imageOf starts targets counts) ≡ targets
   targets-back = rw (edges-back, after-starts) (numbers-of-spelled 4 targets (spelled 8 counts) targets-fit-bytes)
@@ -59,9 +59,9 @@ module _ (starts targets counts : List ℕ) (ok : Counted starts targets counts)
       let image = imageOf starts targets counts in
       let before = 13 + 4 * (verticesOf image + 1) in
       let after-targets : drop (before + 4 * edgesOf image) image ≡ spelled 8 counts
-          = sym (drop-drop (4 * edgesOf image) before image)
-            ∙ ap (drop (4 * edgesOf image)) after-starts
-            ∙ drop-at (spelled 4 targets) (spelled 8 counts) (4 * edgesOf image) (omega (arith, spelled-length 4 targets, edges-back)) in
+      = sym (drop-drop (4 * edgesOf image) before image)
+      ∙ ap (drop (4 * edgesOf image)) after-starts
+      ∙ drop-at (spelled 4 targets) (spelled 8 counts) (4 * edgesOf image) (omega (arith, spelled-length 4 targets, edges-back)) in
       let all : verticesOf image ≡ length counts = vertices-back ∙ sym (ok .count-each) in
       rw (after-targets, all)
       (ap (numbersOf 8 (length counts)) (sym (append-nil (spelled 8 counts))) ∙ numbers-of-spelled 8 counts [] counts-fit-bytes)
@@ -69,12 +69,25 @@ module _ (starts targets counts : List ℕ) (ok : Counted starts targets counts)
   -- the image of a well-formed table meets all that reading asks
   pub image-met : AllMet (headerDemands (imageOf starts targets counts) ++ bodyDemands (imageOf starts targets counts))
   image-met =
-      let long = image-length starts targets counts (omega arith) (ok .count-each) in
-      ((omega (arith, long), refl),
-      (refl,
-      (omega (arith, vertices-back),
-      (omega (arith, edges-back),
-      (rw (vertices-back, edges-back) long,
-      (rw (starts-back, targets-back) (ok .well-formed .starts-fit),
-      (rw (starts-back, targets-back) (ok .well-formed .targets-below),
-      (rw (starts-back, targets-back) (ok .well-formed .rows-rise), (rw counts-back (ok .sum-fits), tt)))))))))
+      let long = image-length starts targets counts (omega arith) (ok .count-each) in (
+        (omega (arith, long), refl),
+        (
+          refl,
+          (
+            omega (arith, vertices-back),
+            (
+              omega (arith, edges-back),
+              (
+                rw (vertices-back, edges-back) long,
+                (
+                  rw (starts-back, targets-back) (ok .well-formed .starts-fit),
+                  (
+                    rw (starts-back, targets-back) (ok .well-formed .targets-below),
+                    (rw (starts-back, targets-back) (ok .well-formed .rows-rise), (rw counts-back (ok .sum-fits), tt)),
+                  ),
+                ),
+              ),
+            ),
+          ),
+        ),
+      )

@@ -83,7 +83,7 @@ module _ (starts targets counts image : List ℕ) where
 
   -- an accepted writing met all that was asked
   pub write-met : (image′ : List ℕ) (number size : ℕ) → Written starts targets counts image image′ number size → number ≡ 0
-    → AllMet (countedDemands starts targets counts ++ writeRoom starts targets image ∷ [])
+      → AllMet (countedDemands starts targets counts ++ writeRoom starts targets image ∷ [])
   write-met image′ number size written e =
       accepted (countedDemands starts targets counts ++ writeRoom starts targets image ∷ [])
       ((λ e. omega arith), ((λ e. omega arith), ((λ e. omega arith), ((λ e. omega arith), ((λ e. omega arith), ((λ e. omega arith), ((λ e. omega arith), ((λ e. omega arith), tt))))))))

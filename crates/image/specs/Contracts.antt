@@ -1,11 +1,12 @@
 -- What reading and writing an image settle: the number, every field, and all memory lent, on a refusal too. Assumes nothing.
-use Prim.Native.Nat.{ℕ, _+_, _≤_}
+use Prim.Native.Nat.{ℕ, _+_, _*_, _≤_}
 use mathlib.Core.Path.{_≡_}
 use mathlib.Core.List.{List, [], _∷_, _++_}
 use lib.ListN.{length, take, drop}
 use Rattle.table.specs.Verdict.{Demand, Verdict}
 use Rattle.table.specs.Table.{vertices}
 use Rattle.table.specs.Numbers.{startsFit, targetsBelow, rowsRise, sumFits, countedDemands}
+use Rattle.image.specs.Bytes.{numbersOf}
 use Rattle.image.specs.Image.{mark, imageLength, imageOf, versionOf, verticesOf, edgesOf, startsOf, targetsOf, countsOf}
 
 -- 10: shorter than 13 bytes, or wrong mark
@@ -49,6 +50,21 @@ readRoom image starts targets counts =
 -- 8: the image slice below the length
 abbrev pub writeRoom : List ℕ → List ℕ → List ℕ → Demand
 writeRoom starts targets image = record { number = 8; met = imageLength (vertices starts) (length targets) ≤ length image }
+
+-- an image of n and m, and slices with room for its table
+pub record LayRoom (image : List ℕ) (n m : ℕ) (starts targets counts : List ℕ) : Type 0 where
+  pub most-vertices : n ≤ 2048
+  pub most-edges : m ≤ 8192
+  pub long : length image ≡ imageLength n m
+  pub starts-room : n + 1 ≤ length starts
+  pub targets-room : m ≤ length targets
+  pub counts-room : n ≤ length counts
+
+-- the three slices, before and after, with the numbers that stand in an image at their fronts
+pub record Laid (image : List ℕ) (n m : ℕ) (starts targets counts starts′ targets′ counts′ : List ℕ) : Type 0 where
+  pub starts-laid : starts′ ≡ numbersOf 4 (n + 1) (drop 13 image) ++ drop (n + 1) starts
+  pub targets-laid : targets′ ≡ numbersOf 4 m (drop (13 + 4 * (n + 1)) image) ++ drop m targets
+  pub counts-laid : counts′ ≡ numbersOf 8 n (drop (13 + 4 * (n + 1) + 4 * m) image) ++ drop n counts
 
 -- what judging a header settles: number, n and m
 pub record HeaderJudged (image : List ℕ) (number n m : ℕ) : Type 0 where

@@ -41,15 +41,16 @@ met-counted starts targets counts met =
     record {
       well-formed = table-well-formed starts targets (first-met (tableDemands starts targets) (countDemands starts counts) met);
       count-each = met .1 .1 .1 .1 .1 .0;
-      sum-fits = met .1 .1 .1 .1 .1 .1 .0
+      sum-fits = met .1 .1 .1 .1 .1 .1 .0;
     }
 
 -- and well-formed ones meet them
 pub counted-meets : (starts targets counts : List ℕ) → Counted starts targets counts → AllMet (countedDemands starts targets counts)
 counted-meets starts targets counts ok =
-    let table = ok .well-formed in
-    ((table .some, table .most-vertices),
-    (table .most-edges, (table .starts-fit, (table .targets-below, (table .rows-rise, (ok .count-each, (ok .sum-fits, tt)))))))
+    let table = ok .well-formed in (
+      (table .some, table .most-vertices),
+      (table .most-edges, (table .starts-fit, (table .targets-below, (table .rows-rise, (ok .count-each, (ok .sum-fits, tt)))))),
+    )
 
 -- starts, targets and counts that are given 0 are well-formed
 pub counted : (starts targets counts : List ℕ) → Verdict (countedDemands starts targets counts) 0 → Counted starts targets counts

@@ -27,5 +27,5 @@ row-lies starts targets fit v h =
     record {
       vertex = omega arith;
       ordered = fit .climbs v (omega arith);
-      within = start-most starts (length targets) fit (v + 1) (omega arith)
+      within = start-most starts (length targets) fit (v + 1) (omega arith);
     }

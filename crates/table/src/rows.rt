@@ -32,12 +32,12 @@ pub fn rises(row: &[u32]) -> bool
 pub fn holds(row: &[u32], v: u32) -> bool
     ensures { λ r. ⌜ Says r (In v (now (row .entry))) ⌝ }
 {
-    let mut k = 0;
-    while k < row.len() {
-        if row[k] == v {
+    let mut place = 0;
+    while place < row.len() {
+        if row[place] == v {
             return true;
         }
-        k += 1;
+        place += 1;
     }
     false
 }

@@ -1,4 +1,4 @@
--- `image::reader::read` meets its contract: an image that is judged sound, room, and the three runs of numbers. Assumes nothing.
+-- `image::reader::read` meets its contract: an image that is judged sound, room, and the table laid out. Assumes nothing.
 use mathlib.Core.List.{_++_}
 use native.Mathlib.Omega.{arith}
 use Rattle.table.proofs.VerdictLaws.{AllMet}
@@ -41,32 +41,8 @@ refused-requires-3 c κs = search needs
 returns-4 : tie.Need-returns-4
 returns-4 c = read-refused-by-room _ _ _ _ _ _ _ (met (c .before .before .before .before)) (λ room. omega (arith, sound (c .before .before .before .before), room)) (c .refused3 .ensures)
 
-add-targets-at : tie.Need-add-targets-at
-add-targets-at c = omega (arith, sound (c .before .before .before))
-
-mul-targets-at : tie.Need-mul-targets-at
-mul-targets-at c = omega (arith, sound (c .before .before .before))
-
-add-targets-at-2 : tie.Need-add-targets-at-2
-add-targets-at-2 c = omega (arith, sound (c .before .before .before))
-
-mul-counts-at : tie.Need-mul-counts-at
-mul-counts-at c = omega (arith, sound (c .before .before .before))
-
-add-counts-at : tie.Need-add-counts-at
-add-counts-at c = omega (arith, sound (c .before .before .before))
-
-add-read-words : tie.Need-add-read-words
-add-read-words c = omega (arith, sound (c .before .before .before))
-
-read-words-requires : tie.Need-read-words-requires
-read-words-requires c κs = omega (arith, sound (c .before .before .before .before))
-
-read-words-requires-2 : tie.Need-read-words-requires-2
-read-words-requires-2 c κs = omega (arith, sound (c .before .before .before .before .before .before .before .before))
-
-read-longs-requires : tie.Need-read-longs-requires
-read-longs-requires c κs = omega (arith, sound (c .before .before .before .before .before .before .before .before .before .before .before .before))
+lay-requires : tie.Need-lay-requires
+lay-requires c κs = omega (arith, sound (c .before .before .before .before .before .before))
 
 same-length : tie.Need-same-length
 same-length c = search needs
@@ -78,9 +54,9 @@ same-length-3 : tie.Need-same-length-3
 same-length-3 c = search needs
 
 returns-5 : tie.Need-returns-5
-returns-5 c = read-taken _ _ _ _ _ _ _ (c .before .before .before .before .before .before .before .before .before .before .read-words .last .1 .1 .1 .0) (c .before .before .before .before .before .before .read-words2 .last .1 .1 .1 .0) (c .before .before .read-longs .last .1 .1 .1 .0)
-    (c .before .before .before .before .before .before .before .before .before .before .before .before .before .before .before .if1 .left) (met (c .before .before .before .before .before .before .before .before .before .before .before .before .before .before .before)) (omega (arith, sound (c .before .before .before .before .before .before .before .before .before .before .before .before .before .before .before))) (sound (c .before .before .before .before .before .before .before .before .before .before .before .before .before .before .before))
-    (record { starts-read = c .before .before .before .before .before .before .before .before .before .before .read-words .ensures; targets-read = c .before .before .before .before .before .before .read-words2 .ensures; counts-read = c .before .before .read-longs .ensures })
+returns-5 c = let laid = c .before .before .before .before .before .before .lay in
+    read-taken _ _ _ _ _ _ _ (laid .last .1 .1 .1 .0) (laid .last .1 .1 .1 .1 .0) (laid .last .1 .1 .1 .1 .1 .0) (c .before .before .before .before .before .before .before .before .before .before .before .before .before .if1 .left) (met (c .before .before .before .before .before .before .before .before .before .before .before .before .before))
+    (omega (arith, sound (c .before .before .before .before .before .before .before .before .before .before .before .before .before))) (sound (c .before .before .before .before .before .before .before .before .before .before .before .before .before)) (laid .ensures)
 
 pub read-spec : {M : Type 1} → statement M
 read-spec =
@@ -95,15 +71,7 @@ read-spec =
     returns-3
     refused-requires-3
     returns-4
-    add-targets-at
-    mul-targets-at
-    add-targets-at-2
-    mul-counts-at
-    add-counts-at
-    add-read-words
-    read-words-requires
-    read-words-requires-2
-    read-longs-requires
+    lay-requires
     same-length
     same-length-2
     same-length-3

@@ -9,10 +9,10 @@ use Rattle.table.proofs.rows.holds.Statement.{statement}
 use Rattle.table.proofs.rows.holds.Tie as tie
 
 abbrev Inv-loop : tie.InvT-loop
-Inv-loop row v k₀ k = (k ≤ length row) × ((j : ℕ) → j < k → getD row j 0 ≡ v → ⊥)
+Inv-loop row v place₀ place = (place ≤ length row) × ((j : ℕ) → j < place → getD row j 0 ≡ v → ⊥)
 
 abbrev μ-loop : tie.MeasureT-loop
-μ-loop row v k₀ k = length row - k
+μ-loop row v place₀ place = length row - place
 
 loop-holds : tie.Need-loop-holds Inv-loop μ-loop
 loop-holds c = search needs
@@ -26,8 +26,8 @@ shared-slice-read-if1 c = search needs
 returns : tie.Need-returns Inv-loop μ-loop
 returns c = search needs
 
-add-k : tie.Need-add-k Inv-loop μ-loop
-add-k c = search needs
+add-place : tie.Need-add-place Inv-loop μ-loop
+add-place c = search needs
 
 loop-less : tie.Need-loop-less Inv-loop μ-loop
 loop-less c = search needs
@@ -48,7 +48,7 @@ holds-spec =
     mul-if1
     shared-slice-read-if1
     returns
-    add-k
+    add-place
     loop-less
     loop-again
     returns-2)
