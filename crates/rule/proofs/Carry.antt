@@ -81,4 +81,4 @@ module _ {E E′ : Graph} {s t x y : ℕ} {N : Graph} (k : Thread E E′ s t N) 
   pub carried-back : {v : ℕ} → B E x y v → (B E′ x y v × (Interior E s t v → ⊥)) ⊎ (Interior E s t v × B E′ x y t × (t ≢ x))
   carried-back b =
       ⊎-map (λ h. (F-reversed .0 (h .0), λ i. h .1 (interior-reversed (bubbloid-of k) .0 i))) (λ h. (interior-reversed (bubbloid-of k) .1 (h .0), F-reversed .0 (h .1), h .2))
-        (carried (thread-reversed k) (clear-reversed (bubbloid-of k) o) (F-reversed .1 b))
+      (carried (thread-reversed k) (clear-reversed (bubbloid-of k) o) (F-reversed .1 b))

@@ -5,3 +5,16 @@ pub mod Thread
 pub mod Carry
 pub mod Transfer
 pub mod Minimal
+pub mod Following
+pub mod Arms
+pub mod Inside
+pub mod Others
+pub mod Together
+pub mod Listings
+pub mod Remaining
+pub mod Compose
+pub mod Budgets
+pub mod Coincide
+pub mod Sums
+pub mod Total
+pub mod Ends

@@ -104,7 +104,7 @@ module _ {E E′ : Graph} {s t x y : ℕ} {N : Graph} (k : Thread E E′ s t N) 
           inside : Interior E s t z → ⊥
           inside i =
               ⊎-elim (λ h. k .superbubble .minimality z (i .inside) (i .not-exit) (cross (bubbloid-of k) c (h .0) (i .inside) (h .1))) (λ h. o .start (h .0) (h .1))
-                (passes (bubbloid-of k) i (exit-inside c))
+              (passes (bubbloid-of k) i (exit-inside c))
 
 -- a superbubble after whose entrance is in U, other than t, has no interior
 entrance-clear : {E E′ : Graph} {s t x y v : ℕ} {N : Graph} → Thread E E′ s t N → Superbubble E′ x y → Interior E′ x y v → F E s t x → x ≢ t → ⊥

@@ -29,6 +29,10 @@ to-first d k (suc j) = 0
 abbrev pub first-takes-all : Rule
 first-takes-all = record { keeps = Kept; portion = to-first }
 
+-- the budgets added up
+abbrev pub budgets-sum : List ℕ → ℕ
+budgets-sum = sum (λ budget. budget)
+
 -- a vertex that is the entrance of a candidate
 abbrev pub Entrance : (Graph → ℕ → ℕ → Type 0) → Graph → ℕ → Type 0
 Entrance C E s = (t : ℕ) × C E s t

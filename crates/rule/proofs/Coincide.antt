@@ -1,0 +1,94 @@
+-- Two folds of the same graph and counts with the same budget coincide: edges, counts, and the numbers returned.
+-- Assumes nothing.
+use Prim.Native.Nat.{ℕ, zero, suc, _+_, _<_}
+use mathlib.Core.Path.{_≡_, refl, sym, _∙_, ap, ap₂}
+use mathlib.Core.Logic.{_↔_, _⊎_, inl, inr, ⊎-elim}
+use mathlib.Core.List.{List, [], _∷_, map, List·Memᴰ, List·Memᴰ·head, List·Memᴰ·tail, List·Memᴰ·not-nil, List·Memᴰ·cases-cons}
+use native.Mathlib.Omega.{arith}
+use lib.ListN.{length, take, getD}
+use Rattle.bubble.specs.Superbubble.{Interior}
+use Rattle.bubble.proofs.Unique.{exit-unique}
+use Rattle.bubble.proofs.Reflect.{decided, decides-member}
+use Rattle.rule.specs.Lists.{Graph, Counts, Listing}
+use Rattle.rule.specs.Fold.{Rule, Item, Entrance, Fits, Applied, Folded}
+use Rattle.rule.specs.Laws.{RuleLaws, CandidateLaws}
+use Rattle.rule.proofs.Together.{entrances}
+use Rattle.rule.proofs.Listings.{listing-unique, listing-same}
+
+-- the same edges and the same counts
+pub record Same (E E′ : Graph) (c c′ : Counts) : Type 0 where
+  pub edges : (u v : ℕ) → E u v ↔ E′ u v
+  pub counts : (v : ℕ) → c v ≡ c′ v
+
+-- where entries are told apart by f, lists with the same f are the same
+map-injective : {A : Type 0} (f : A → ℕ) (l k : List A) → ((a b : A) → List·Memᴰ a l → List·Memᴰ b k → f a ≡ f b → a ≡ b) → map f l ≡ map f k → l ≡ k
+map-injective f [] [] h q = refl
+map-injective f [] (y ∷ k) h q = let z : _≡_ {A = ℕ} 0 1 = cc in absurd (omega arith)
+map-injective f (x ∷ l) [] h q = let z : _≡_ {A = ℕ} 0 1 = cc in absurd (omega arith)
+map-injective {A} f (x ∷ l) (y ∷ k) h q =
+    let p : f x ≡ f y = cc in
+    let r : map f l ≡ map f k = cc in
+    ap₂ {C = List A} (λ a b. a ∷ b) (h x y (List·Memᴰ·head refl) (List·Memᴰ·head refl) p) (map-injective f l k (λ a b i j. h a b (List·Memᴰ·tail i) (List·Memᴰ·tail j)) r)
+
+place-of : {v : ℕ} {l : List ℕ} → List·Memᴰ v l → (j : ℕ) × (j < length l) × (getD l j 0 ≡ v)
+place-of (List·Memᴰ·head q) = (0, omega arith, sym q)
+place-of (List·Memᴰ·tail m) = let (j, h, q) = place-of m in (suc j, omega arith, q)
+
+-- v is on an arm, or dropped, or neither
+data Where (v : ℕ) (items : List Item) : Type 0 where
+  on-arm : (i : Item) → List·Memᴰ i items → List·Memᴰ v (i .arm) → Where v items
+  is-dropped : (i : Item) → List·Memᴰ i items → List·Memᴰ v (i .dropped) → Where v items
+  neither : ((i : Item) → List·Memᴰ i items → (List·Memᴰ v (i .arm) → ⊥) × (List·Memᴰ v (i .dropped) → ⊥)) → Where v items
+
+where-is : (v : ℕ) (items : List Item) → Where v items
+where-is v [] = neither (λ i m. absurd (List·Memᴰ·not-nil m))
+where-is v (i ∷ items) =
+    elim (decided (decides-member v (i .arm))) [
+      | yes m ↦ on-arm i (List·Memᴰ·head refl) m
+      | no n ↦ elim (decided (decides-member v (i .dropped))) [ yes m ↦ is-dropped i (List·Memᴰ·head refl) m | no k ↦ widen n k (where-is v items) ]
+    ]
+  where
+    widen : (List·Memᴰ v (i .arm) → ⊥) → (List·Memᴰ v (i .dropped) → ⊥) → Where v items → Where v (i ∷ items)
+    widen n k (on-arm j m h) = on-arm j (List·Memᴰ·tail m) h
+    widen n k (is-dropped j m h) = is-dropped j (List·Memᴰ·tail m) h
+    widen n k (neither h) = neither (λ j m. ⊎-elim (λ q. rw q (n, k)) (h j) (List·Memᴰ·cases-cons m))
+
+module _ {G : Graph → Type 0} {C : Graph → ℕ → ℕ → Type 0} {R : Rule} (L : CandidateLaws G C) (M : RuleLaws R) where
+  item-unique : {E : Graph} {c : Counts} {i j : Item} → Fits C R E c i → Fits C R E c j → i .entrance ≡ j .entrance → i ≡ j
+  item-unique {E} {c} {i} {j} f h p =
+      let q : i .exit ≡ j .exit = exit-unique (L .superbubble (f .candidate)) (rw p (L .superbubble (h .candidate))) in
+      let r : i .arm ≡ j .arm = M .one (L .superbubble (f .candidate)) (f .kept) (rw (p, q) (h .kept)) in
+      let d : i .dropped ≡ j .dropped = listing-unique (f .rest) (rw (p, q, r) (h .rest)) in
+      λ k. record { entrance = p k; exit = q k; arm = r k; dropped = d k }
+
+  module _ {E E′ E″ : Graph} {c c′ c″ : Counts} {b : ℕ} (one : Applied C R E c b E′ c′) (other : Applied C R E c b E″ c″) where
+    candidates-same : one .candidates ≡ other .candidates
+    candidates-same = listing-unique (one .listed) (other .listed)
+
+    items-same : one .items ≡ other .items
+    items-same = map-injective (λ (i : Item). i .entrance) (one .items) (other .items) (λ i j m n. item-unique (one .fit i m) (other .fit j n)) (one .first ∙ ap (take b) candidates-same ∙ sym (other .first))
+
+    counts-same : (v : ℕ) → Where v (one .items) → c′ v ≡ c″ v
+    counts-same v (on-arm i m h) = let (j, k, q) = place-of h in rw (← q) (one .added i m j k ∙ sym (other .added i (rw items-same at m) j k))
+    counts-same v (is-dropped i m h) = one .emptied i m v h ∙ sym (other .emptied i (rw items-same at m) v h)
+    counts-same v (neither n) =
+        let out : (i : Item) → List·Memᴰ i (one .items) → Interior E (i .entrance) (i .exit) v → ⊥ = λ i m k. n i m .1 (one .fit i m .rest .holds v .1 (k, n i m .0)) in
+        one .untouched v out ∙ sym (other .untouched v (λ i m. out i (rw items-same m)))
+
+    pub applied-same : Same E′ E″ c′ c″
+    applied-same = record {
+      edges = λ u v. (
+        λ e. let (d, h) = one .edges u v .0 e in other .edges u v .1 (d, λ i m. h i (rw items-same m)),
+        λ e. let (d, h) = other .edges u v .0 e in one .edges u v .1 (d, λ i m. h i (rw items-same at m)),
+      );
+      counts = λ v. counts-same v (where-is v (one .items));
+    }
+
+  -- the two numbers returned coincide too
+  pub folded-same : {E E′ E″ : Graph} {c c′ c″ : Counts} {b f f′ l l′ : ℕ} → (one : Folded C R E c b E′ c′ f l) (other : Folded C R E c b E″ c″ f′ l′) → Same E′ E″ c′ c″ × (f ≡ f′) × (l ≡ l′)
+  folded-same {E″ = E″} one other =
+      let same = applied-same (one .applied) (other .applied) in
+      let (k, h, q) = one .remaining in
+      let (k′, h′, q′) = other .remaining in
+      let carried : Listing (Entrance C E″) k = listing-same (λ v. (λ x. (x .0, L .same (same .edges) (x .1)), λ x. (x .0, L .same (λ u w. (same .edges u w .1, same .edges u w .0)) (x .1)))) h in
+      (same, one .how-many ∙ ap length (items-same (one .applied) (other .applied)) ∙ sym (other .how-many), q ∙ ap length (listing-unique carried h′) ∙ sym q′)

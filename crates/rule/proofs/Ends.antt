@@ -1,0 +1,29 @@
+-- Where a fold ends: with a budget of all candidates none is left, and a fold where there is none gives back its input.
+-- Assumes nothing.
+use Prim.Native.Nat.{ℕ, _≤_}
+use mathlib.Core.Path.{_≡_, sym}
+use mathlib.Core.List.{List, List·Memᴰ, List·Memᴰ·not-nil}
+use lib.ListN.{length, drop, drop-of-length-le}
+use Rattle.rule.specs.Lists.{Graph, Counts, Listing}
+use Rattle.rule.specs.Fold.{Rule, Item, Entrance, Applied}
+use Rattle.rule.specs.Laws.{RuleLaws, CandidateLaws}
+use Rattle.rule.proofs.Listings.{listing-unique}
+use Rattle.rule.proofs.Remaining.{remaining-listed}
+use Rattle.rule.proofs.Coincide.{Same}
+
+-- where the budget reaches the number of candidates, no candidate is left
+pub none-left : {G : Graph → Type 0} {C : Graph → ℕ → ℕ → Type 0} {R : Rule} {E E′ : Graph} {c c′ : Counts} {b : ℕ} {l : List ℕ} → CandidateLaws G C → RuleLaws R → G E → Applied C R E c b E′ c′
+    → Listing (Entrance C E) l → length l ≤ b → (s t : ℕ) → C E′ s t → ⊥
+none-left {b = b} {l = l} L M g a k h s t d =
+    let q : drop b (a .candidates) ≡ drop b l = rw (listing-unique (a .listed) k) in
+    let m : List·Memᴰ s (drop b l) = rw q at (remaining-listed L M g a .holds s .1 (t, d)) in
+    List·Memᴰ·not-nil (rw (drop-of-length-le l h) at m)
+
+-- a fold where there is no candidate gives back its input
+pub nothing-changes : {C : Graph → ℕ → ℕ → Type 0} {R : Rule} {E E′ : Graph} {c c′ : Counts} {b : ℕ} → ((s t : ℕ) → C E s t → ⊥) → Applied C R E c b E′ c′ → Same E′ E c′ c
+nothing-changes n a =
+    let none : (i : Item) → List·Memᴰ i (a .items) → ⊥ = λ i m. n (i .entrance) (i .exit) (a .fit i m .candidate) in
+    record {
+      edges = λ u v. (λ e. a .edges u v .0 e .0, λ e. a .edges u v .1 (e, λ i m. absurd (none i m)));
+      counts = λ v. a .untouched v (λ i m. absurd (none i m));
+    }

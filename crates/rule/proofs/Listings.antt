@@ -1,0 +1,76 @@
+-- A listing is the only one of its kind, and what is left of it after its first entries is a listing too; sums over a list.
+-- Assumes nothing.
+use Prim.Native.Nat.{ℕ, zero, suc, _+_, _<_}
+use mathlib.Core.Path.{_≡_, refl, sym, ap, ap₂}
+use mathlib.Core.Logic.{_↔_, ⊎-elim}
+use mathlib.Core.List.{List, [], _∷_, _++_, List·Memᴰ, List·Memᴰ·head, List·Memᴰ·tail, List·Memᴰ·not-nil, List·Memᴰ·cases-cons, List·Memᴰ·append-cases, Memᴰ·append-left, Memᴰ·append-right, Memᴰ·cast}
+use native.Mathlib.Nat.{lt-irrefl}
+use native.Mathlib.Omega.{arith}
+use lib.ListN.{length, take, drop, getD, take-append-drop}
+use Rattle.bubble.proofs.Pigeonhole.{Distinct, Distinct.empty, Distinct.fresh}
+use Rattle.rule.specs.Lists.{Counts, Rising, Rising.empty, Rising.first, Listing, sum}
+
+pub rising-distinct : {l : List ℕ} → Rising l → Distinct l
+rising-distinct empty = empty
+rising-distinct (first {v = v} h r) = fresh (λ m. lt-irrefl v (h v m)) (rising-distinct r)
+
+rising-unique : {l k : List ℕ} → Rising l → Rising k → ((v : ℕ) → List·Memᴰ v l → List·Memᴰ v k) → ((v : ℕ) → List·Memᴰ v k → List·Memᴰ v l) → l ≡ k
+rising-unique empty empty f g = refl
+rising-unique empty (first {v = v} h r) f g = absurd (List·Memᴰ·not-nil (g v (List·Memᴰ·head refl)))
+rising-unique (first {v = v} h r) empty f g = absurd (List·Memᴰ·not-nil (f v (List·Memᴰ·head refl)))
+rising-unique (first {v = x} {l = l} h r) (first {v = y} {l = k} i s) f g = ap₂ {C = List ℕ} (λ a b. a ∷ b) same (rising-unique r s to back)
+  where
+    same : x ≡ y
+    same = ⊎-elim (λ q. q) (λ m. ⊎-elim (λ q. sym q) (λ n. let a = i x m in let b = h y n in omega arith) (List·Memᴰ·cases-cons (g y (List·Memᴰ·head refl)))) (List·Memᴰ·cases-cons (f x (List·Memᴰ·head refl)))
+
+    to : (v : ℕ) → List·Memᴰ v l → List·Memᴰ v k
+    to v m = ⊎-elim (λ q. let a = h v m in absurd (omega (arith, same))) (λ n. n) (List·Memᴰ·cases-cons (f v (List·Memᴰ·tail m)))
+
+    back : (v : ℕ) → List·Memᴰ v k → List·Memᴰ v l
+    back v m = ⊎-elim (λ q. let a = i v m in absurd (omega (arith, same))) (λ n. n) (List·Memᴰ·cases-cons (g v (List·Memᴰ·tail m)))
+
+pub listing-unique : {P : ℕ → Type 0} {l k : List ℕ} → Listing P l → Listing P k → l ≡ k
+listing-unique a b = rising-unique (a .rising) (b .rising) (λ v m. b .holds v .1 (a .holds v .0 m)) (λ v m. a .holds v .1 (b .holds v .0 m))
+
+pub listing-same : {P Q : ℕ → Type 0} {l : List ℕ} → ((v : ℕ) → P v ↔ Q v) → Listing P l → Listing Q l
+listing-same h a = record { rising = a .rising; holds = λ v. (λ m. h v .0 (a .holds v .0 m), λ q. a .holds v .1 (h v .1 q)) }
+
+-- the front of a rising list rises
+rising-front : (l k : List ℕ) → Rising (l ++ k) → Rising l
+rising-front [] k r = empty
+rising-front (x ∷ l) k (first h r) = first (λ w m. h w (Memᴰ·append-left k m)) (rising-front l k r)
+
+rising-rest : (l : List ℕ) {k : List ℕ} → Rising (l ++ k) → Rising k
+rising-rest [] r = r
+rising-rest (x ∷ l) (first h r) = rising-rest l r
+
+rising-apart : {v : ℕ} (l : List ℕ) {k : List ℕ} → Rising (l ++ k) → List·Memᴰ v l → List·Memᴰ v k → ⊥
+rising-apart {v} (x ∷ l) (first h r) m n = ⊎-elim (λ q. lt-irrefl v (rw q (rw q at (h v (Memᴰ·append-right l n))))) (λ i. rising-apart l r i n) (List·Memᴰ·cases-cons m)
+rising-apart [] r m n = List·Memᴰ·not-nil m
+
+module _ {P : ℕ → Type 0} {l : List ℕ} (a : Listing P l) (k : ℕ) where
+  split : Rising (take k l ++ drop k l)
+  split = rw take-append-drop (a .rising)
+
+  pub listing-front : Distinct (take k l)
+  listing-front = rising-distinct (rising-front (take k l) (drop k l) split)
+
+  pub listing-rest : Listing (λ v. P v × (List·Memᴰ v (take k l) → ⊥)) (drop k l)
+  listing-rest = record { rising = rising-rest (take k l) split; holds = λ v. (to v, back v) }
+    where
+      to : (v : ℕ) → List·Memᴰ v (drop k l) → P v × (List·Memᴰ v (take k l) → ⊥)
+      to v m = (a .holds v .0 (rw take-append-drop at (Memᴰ·append-right (take k l) m)), λ n. rising-apart (take k l) split n m)
+
+      back : (v : ℕ) → P v × (List·Memᴰ v (take k l) → ⊥) → List·Memᴰ v (drop k l)
+      back v h =
+          let m : List·Memᴰ v (take k l ++ drop k l) = rw take-append-drop (a .holds v .1 (h .0)) in
+          ⊎-elim (λ i. absurd (h .1 i)) (λ i. i) (List·Memᴰ·append-cases (take k l) m)
+
+pub getD-in : (l : List ℕ) (j : ℕ) → j < length l → List·Memᴰ (getD l j 0) l
+getD-in [] j h = absurd (omega arith)
+getD-in (x ∷ l) zero h = List·Memᴰ·head refl
+getD-in (x ∷ l) (suc j) h = List·Memᴰ·tail (getD-in l j (omega arith))
+
+pub sum-same : {c d : Counts} (l : List ℕ) → ((v : ℕ) → List·Memᴰ v l → c v ≡ d v) → sum c l ≡ sum d l
+sum-same [] h = refl
+sum-same (x ∷ l) h = ap₂ _+_ (h x (List·Memᴰ·head refl)) (sum-same l (λ v m. h v (List·Memᴰ·tail m)))

@@ -1,0 +1,118 @@
+-- A fold never moves the total of the counts: what one superbubble drops is added inside it.
+-- Assumes nothing.
+use Prim.Native.Nat.{ℕ, suc, _+_, _<_}
+use mathlib.Core.Path.{_≡_, refl, sym, subst}
+use mathlib.Core.Logic.{⊎-elim}
+use mathlib.Core.List.{List, [], _∷_, _++_, List·Memᴰ, List·Memᴰ·head, List·Memᴰ·tail, List·Memᴰ·not-nil, List·Memᴰ·append-cases, Memᴰ·append-left, Memᴰ·append-right, Memᴰ·map, Memᴰ·cast}
+use native.Mathlib.Omega.{arith}
+use lib.ListN.{length}
+use Rattle.bubble.specs.Superbubble.{Interior, Superbubble}
+use Rattle.bubble.proofs.Facts.{predecessor}
+use Rattle.bubble.proofs.Pigeonhole.{Distinct, Distinct.empty, Distinct.fresh, distinct-append}
+use Rattle.bubble.proofs.Number.{Below}
+use Rattle.bubble.proofs.Reflect.{decided, decides-member}
+use Rattle.rule.specs.Lists.{Graph, Counts, sum, total}
+use Rattle.rule.specs.Kept.{Arm}
+use Rattle.rule.specs.Fold.{Rule, Item, Fits, Applied}
+use Rattle.rule.specs.Laws.{RuleLaws, CandidateLaws}
+use Rattle.rule.proofs.Arms.{arm-distinct}
+use Rattle.rule.proofs.Together.{entrances}
+use Rattle.rule.proofs.Listings.{rising-distinct}
+use Rattle.rule.proofs.Remaining.{items-differ}
+use Rattle.rule.proofs.Sums.{sum-append, sum-zero, sum-added, total-moved}
+
+-- the vertices whose counts change
+touched : List Item → List ℕ
+touched [] = []
+touched (i ∷ items) = (i .arm ++ i .dropped) ++ touched items
+
+in-touched : {v : ℕ} {i : Item} (items : List Item) → List·Memᴰ i items → List·Memᴰ v (i .arm ++ i .dropped) → List·Memᴰ v (touched items)
+unfolding touched
+in-touched {v} (j ∷ items) (List·Memᴰ·head q) h = Memᴰ·append-left (touched items) (subst (λ (x : Item). List·Memᴰ v (x .arm ++ x .dropped)) q h)
+in-touched (j ∷ items) (List·Memᴰ·tail m) h = Memᴰ·append-right (j .arm ++ j .dropped) (in-touched items m h)
+
+of-touched : {v : ℕ} (items : List Item) → List·Memᴰ v (touched items) → (i : Item) × List·Memᴰ i items × List·Memᴰ v (i .arm ++ i .dropped)
+unfolding touched
+of-touched [] m = absurd (List·Memᴰ·not-nil m)
+of-touched (j ∷ items) m = ⊎-elim (λ h. (j, List·Memᴰ·head refl, h)) (λ k. let (i, n, h) = of-touched items k in (i, List·Memᴰ·tail n, h)) (List·Memᴰ·append-cases (j .arm ++ j .dropped) m)
+
+distinct-front : (l k : List ℕ) → Distinct (l ++ k) → Distinct l
+distinct-front [] k d = empty
+distinct-front (x ∷ l) k (fresh n d) = fresh (λ m. n (Memᴰ·append-left k m)) (distinct-front l k d)
+
+-- the inner vertices of a path differ
+inner-distinct : {E : Graph} {s t : ℕ} (l : List ℕ) → Superbubble E s t → Arm E s t l → Distinct l
+inner-distinct {t = t} l p a = go (arm-distinct (p .bubbloid) a)
+  where
+    go : {s : ℕ} → Distinct (s ∷ l ++ (t ∷ [])) → Distinct l
+    go (fresh n d) = distinct-front l (t ∷ []) d
+
+module _ {G : Graph → Type 0} {C : Graph → ℕ → ℕ → Type 0} {R : Rule} (L : CandidateLaws G C) (M : RuleLaws R) {E : Graph} {c : Counts} where
+  -- arm and dropped are the interior
+  module _ (i : Item) (f : Fits C R E c i) where
+    arm-of : Arm E (i .entrance) (i .exit) (i .arm)
+    arm-of = M .path (L .superbubble (f .candidate)) (f .kept)
+
+    of-interior : (v : ℕ) → List·Memᴰ v (i .arm ++ i .dropped) → Interior E (i .entrance) (i .exit) v
+    of-interior v m = ⊎-elim (arm-of .inner v) (λ k. f .rest .holds v .0 k .0) (List·Memᴰ·append-cases (i .arm) m)
+
+    in-interior : (v : ℕ) → Interior E (i .entrance) (i .exit) v → List·Memᴰ v (i .arm ++ i .dropped)
+    in-interior v h = elim (decided (decides-member v (i .arm))) [ yes m ↦ Memᴰ·append-left (i .dropped) m | no n ↦ Memᴰ·append-right (i .arm) (f .rest .holds v .1 (h, n)) ]
+
+    interior-distinct : Distinct (i .arm ++ i .dropped)
+    interior-distinct = distinct-append (inner-distinct (i .arm) (L .superbubble (f .candidate)) arm-of) (rising-distinct (f .rest .rising)) (λ v m k. f .rest .holds v .0 k .1 m)
+
+    -- all that is dropped is added again
+    whole-dropped : (l : List ℕ) → R .keeps E c (i .entrance) (i .exit) l → total (R .portion (sum c (i .dropped)) (length l)) (length l) ≡ sum c (i .dropped)
+    whole-dropped [] k = sym (sum-zero (i .dropped) (λ v m. M .bare (L .superbubble (f .candidate)) k v (f .rest .holds v .0 m .0)))
+    whole-dropped (x ∷ l) k = M .whole (sum c (i .dropped)) (suc (length l)) (omega arith)
+
+  touched-distinct : (items : List Item) → ((i : Item) → List·Memᴰ i items → Fits C R E c i) → Distinct (entrances items) → Distinct (touched items)
+  unfolding touched
+  touched-distinct [] f d = empty
+  touched-distinct (i ∷ items) f (fresh n d) = distinct-append (interior-distinct i fi) (touched-distinct items (λ j m. f j (List·Memᴰ·tail m)) d) apart
+    where
+      fi : Fits C R E c i
+      fi = f i (List·Memᴰ·head refl)
+
+      apart : (v : ℕ) → List·Memᴰ v (i .arm ++ i .dropped) → List·Memᴰ v (touched items) → ⊥
+      apart v m k =
+          let (j, h, l) = of-touched items k in
+          let fj = f j (List·Memᴰ·tail h) in
+          let entrance : Item → ℕ = λ x. x .entrance in
+          L .apart (fi .candidate) (fj .candidate) (λ q. n (Memᴰ·cast q (Memᴰ·map entrance h))) (of-interior i fi v m) (of-interior j fj v l .inside)
+
+  module _ {E′ : Graph} {c′ : Counts} {b : ℕ} (g : G E) (a : Applied C R E c b E′ c′) where
+    item-sum : (i : Item) → List·Memᴰ i (a .items) → sum c′ (i .arm ++ i .dropped) ≡ sum c (i .arm ++ i .dropped)
+    item-sum i m =
+        omega (
+          arith,
+          sum-append c′ (i .arm) (i .dropped),
+          sum-append c (i .arm) (i .dropped),
+          sum-zero {c = c′} (i .dropped) (a .emptied i m),
+          sum-added c c′ (R .portion (sum c (i .dropped)) (length (i .arm))) (i .arm) (a .added i m),
+          whole-dropped i (a .fit i m) (i .arm) (a .fit i m .kept),
+        )
+
+    touched-sum : (items : List Item) → ((i : Item) → List·Memᴰ i items → List·Memᴰ i (a .items)) → sum c′ (touched items) ≡ sum c (touched items)
+    unfolding touched
+    touched-sum [] h = refl
+    touched-sum (i ∷ items) h =
+        omega (
+          arith,
+          sum-append c′ (i .arm ++ i .dropped) (touched items),
+          sum-append c (i .arm ++ i .dropped) (touched items),
+          item-sum i (h i (List·Memᴰ·head refl)),
+          touched-sum items (λ j m. h j (List·Memᴰ·tail m)),
+        )
+
+    pub total-kept : (n : ℕ) → Below E n → total c′ n ≡ total c n
+    total-kept n below =
+        let l = touched (a .items) in
+        let bounded : (v : ℕ) → List·Memᴰ v l → v < n = λ v m.
+                let (i, k, h) = of-touched (a .items) m in
+                let inner = of-interior i (a .fit i k) v h in
+                let (u, f, e) = predecessor (L .superbubble (a .fit i k .candidate) .bubbloid) (inner .inside) (inner .not-entrance) in
+                below u v e .1 in
+        total-moved n (touched-distinct (a .items) (a .fit) (items-differ L M g a)) bounded
+          (λ v out. a .untouched v (λ i m h. out (in-touched (a .items) m (in-interior i (a .fit i m) v h)))) (touched-sum (a .items) (λ i m. m))
