@@ -3,6 +3,7 @@ pub mod ByteLaws
 pub mod Determined
 pub mod HeaderLaws
 pub mod ImageBack
+pub mod Limits
 pub mod ReadLaws
 pub mod RoundTrip
 pub mod TableBack

@@ -1,11 +1,11 @@
--- What the numbers of `Numbers` say where they are 0: the table is well-formed. Assumes nothing.
+-- A table is given 0 exactly if it is well-formed. Assumes nothing.
 use Prim.Native.Nat.{ℕ}
 use mathlib.Core.List.{List}
 use native.Mathlib.Omega.{arith}
 use Rattle.table.specs.Verdict.{Verdict}
 use Rattle.table.specs.Table.{WellFormed, Counted}
 use Rattle.table.specs.Numbers.{tableDemands, countDemands, countedDemands}
-use Rattle.table.proofs.VerdictLaws.{AllMet, accepted, first-met}
+use Rattle.table.proofs.VerdictLaws.{AllMet, accepted, accepts, first-met}
 
 -- 0 of `tableDemands`: 1 to 5 are met
 pub table-met : (starts targets : List ℕ) → Verdict (tableDemands starts targets) 0 → AllMet (tableDemands starts targets)
@@ -35,6 +35,12 @@ table-well-formed starts targets met =
 pub well-formed : (starts targets : List ℕ) → Verdict (tableDemands starts targets) 0 → WellFormed starts targets
 well-formed starts targets v = table-well-formed starts targets (table-met starts targets v)
 
+-- and well-formed ones are given 0
+pub well-formed-accepted : (starts targets : List ℕ) → WellFormed starts targets → Verdict (tableDemands starts targets) 0
+well-formed-accepted starts targets ok =
+    accepts (tableDemands starts targets)
+    ((ok .some, ok .most-vertices), (ok .most-edges, (ok .starts-fit, (ok .targets-below, (ok .rows-rise, tt)))))
+
 -- starts, targets and counts that meet 1 to 7 are well-formed
 pub met-counted : (starts targets counts : List ℕ) → AllMet (countedDemands starts targets counts) → Counted starts targets counts
 met-counted starts targets counts met =
@@ -55,3 +61,7 @@ counted-meets starts targets counts ok =
 -- starts, targets and counts that are given 0 are well-formed
 pub counted : (starts targets counts : List ℕ) → Verdict (countedDemands starts targets counts) 0 → Counted starts targets counts
 counted starts targets counts v = met-counted starts targets counts (counted-met starts targets counts v)
+
+-- and well-formed ones are given 0
+pub counted-accepted : (starts targets counts : List ℕ) → Counted starts targets counts → Verdict (countedDemands starts targets counts) 0
+counted-accepted starts targets counts ok = accepts (countedDemands starts targets counts) (counted-meets starts targets counts ok)

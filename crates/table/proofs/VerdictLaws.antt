@@ -17,6 +17,13 @@ pub says-yes : (P : Type 0) (b : Bool) → Says b P → not b ≡ false → P
 says-yes P true s e = s
 says-yes P false s e = let z : _≡_ {A = ℕ} 0 1 = cc in absurd (let no : ⊥ = omega arith in no)
 
+-- a test's answer is determined
+pub says-unique : (P : Type 0) (b b′ : Bool) → Says b P → Says b′ P → b ≡ b′
+says-unique P true true s s′ = refl
+says-unique P true false s s′ = absurd (s′ s)
+says-unique P false true s s′ = absurd (s s′)
+says-unique P false false s s′ = refl
+
 -- the number given is determined
 pub verdict-unique : (demands : List Demand) (r r′ : ℕ) → Verdict demands r → Verdict demands r′ → r ≡ r′
 verdict-unique [] r r′ v v′ = v ∙ sym v′
