@@ -1,0 +1,1 @@
+// The cycle test: depth first, each vertex's successors visited through its row alone.

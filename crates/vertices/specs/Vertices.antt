@@ -1,0 +1,28 @@
+-- A set of vertices, one bit each, in 32 words of 64 bits, and the number of its members. Assumes nothing.
+use Prim.Native.Nat.{ℕ, _+_, _/_, _%_, _^_, _<_}
+use mathlib.Core.Path.{_≡_}
+use mathlib.Core.Logic.{_↔_}
+use mathlib.Core.List.{List, [], _∷_}
+use lib.ListN.{length, getD}
+use lib.Count.{ones}
+use Rattle.table.specs.Table.{In}
+
+-- the bit of place k, 0 or 1
+abbrev pub bitAt : ℕ → ℕ → ℕ
+bitAt w k = w / 2 ^ k % 2
+
+-- v is in the set: the bit of place v % 64 of word v / 64 is 1
+abbrev pub Member : List ℕ → ℕ → Type 0
+Member words v = bitAt (getD words (v / 64) 0) (v % 64) ≡ 1
+
+-- the sum of each word's count of ones
+abbrev pub onesOf : List ℕ → ℕ
+onesOf [] = 0
+onesOf (w ∷ words) = ones w + onesOf words
+
+-- P holds of exactly k numbers: a list of k different numbers has exactly those of which it holds
+pub record Numbers (P : ℕ → Type 0) (k : ℕ) : Type 0 where
+  pub listed : List ℕ
+  pub many : length listed ≡ k
+  pub apart : (i j : ℕ) → i < k → j < k → getD listed i 0 ≡ getD listed j 0 → i ≡ j
+  pub exactly : (v : ℕ) → In v listed ↔ P v

@@ -1,0 +1,1 @@
+// A set of vertices kept as one bit a vertex, and its size.
