@@ -16,16 +16,16 @@ abbrev pub occurrences : ℕ → List ℕ → ℕ
 occurrences v [] = 0
 occurrences v (x ∷ xs) = cond (eqb x v) 1 0 + occurrences v xs
 
--- for each vertex the number of edges that lead to it, a self-loop among them
-pub record Parents (starts targets parents : List ℕ) : Type 0 where
-  pub each : length parents ≡ vertices starts
-  pub count : (v : ℕ) → v < vertices starts → getD parents v 0 ≡ occurrences v targets
+-- for each of n vertices the number of edges that lead to it, a self-loop among them; nothing leads to n or more
+pub record Parents (n : ℕ) (targets parents : List ℕ) : Type 0 where
+  pub each : length parents ≡ n
+  pub count : (v : ℕ) → getD parents v 0 ≡ occurrences v targets
 
 -- what the search is handed: a well-formed table, one of its vertices, the parents' counts, once to read and once to work on, and room for the order
 pub record Searchable (starts targets parents left order : List ℕ) (s : ℕ) : Type 0 where
   pub well-formed : WellFormed starts targets
   pub vertex : s < vertices starts
-  pub counted : Parents starts targets parents
+  pub counted : Parents (vertices starts) targets parents
   pub whole : left ≡ parents
   pub room : vertices starts ≤ length order
 
@@ -43,3 +43,9 @@ pub record Visited (starts targets order : List ℕ) (s t k : ℕ) : Type 0 wher
 abbrev pub Searched : List ℕ → List ℕ → ℕ → Exit → List ℕ → Type 0
 Searched starts targets s (At t k) order = Visited starts targets order s t k
 Searched starts targets s Nothing order = (t : ℕ) → Superbubble (Edge starts targets) s t → ⊥
+
+-- what a search leaves: its answer, the parents' counts whole again, and an order as long as before
+pub record Sought (starts targets left order left′ order′ : List ℕ) (s : ℕ) (exit : Exit) : Type 0 where
+  pub searched : Searched starts targets s exit order′
+  pub whole : left′ ≡ left
+  pub room : length order′ ≡ length order

@@ -1,0 +1,10 @@
+pub mod SumLaws
+pub mod OccurrenceLaws
+pub mod TallyLaws
+pub mod WaitLaws
+pub mod WalkLaws
+pub mod UnvisitedLaws
+pub mod UndoLaws
+pub mod Going
+pub mod TurnLaws
+pub mod EndLaws

@@ -1,0 +1,40 @@
+// How often each vertex stands in a list, and with it how many edges lead to each vertex.
+ghost use Prim.Native.Nat.{_≤_};
+ghost use lib.ListN.{length};
+ghost use Rattle.table.specs.Table.{Below};
+ghost use Rattle.search.specs.Search.{Parents};
+ghost use Rattle.search.specs.Steps.{Zeros, Tallying, Tallied};
+
+// Sets each number to 0.
+fn clear(counts: &mut [u32])
+    ensures { λ r. ⌜ Zeros (now (counts .entry)) (now (counts .exit)) ⌝ }
+{
+    let mut k = 0;
+    while k < counts.len() {
+        counts[k] = 0;
+        k += 1;
+    }
+}
+
+// Adds to each vertex's count how often it stands among the vertices.
+pub fn tally(vertices: &[u32], counts: &mut [u32])
+    requires { ⌜ Tallying (now vertices) (now counts) ⌝ }
+    ensures { λ r. ⌜ Tallied (now (vertices .entry)) (now (counts .entry)) (now (counts .exit)) ⌝ }
+{
+    let mut k = 0;
+    while k < vertices.len() {
+        let v = vertices[k] as usize;
+        counts[v] += 1;
+        k += 1;
+    }
+}
+
+// How many edges lead to each vertex.
+pub fn count_parents(targets: &[u32], parents: &mut [u32])
+    requires { ⌜ Below (length (now parents)) (now targets) ⌝ }
+    requires { ⌜ length (now targets) ≤ 8192 ⌝ }
+    ensures { λ r. ⌜ Parents (length (now (parents .entry))) (now (targets .entry)) (now (parents .exit)) ⌝ }
+{
+    clear(parents);
+    tally(targets, parents);
+}
