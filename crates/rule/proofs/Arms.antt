@@ -24,7 +24,7 @@ via-edge {E} (bare e) f = ⊎-elim (λ q. rw (q .0) (via-first {E = E} (bare e) 
 via-edge {E} (then e p) f = ⊎-elim (λ q. rw (q .0) (via-first {E = E} (then e p) (q .1))) (via-edge p) (follows-cases f)
 
 -- a path leads from its first vertex to every other
-via-walk : {E : Graph} {P : ℕ → Type 0} {t s v : ℕ} {l : List ℕ} → P s → ((w : ℕ) → List·Memᴰ w (l ++ (t ∷ [])) → P w) → Via E t s l → List·Memᴰ v (l ++ (t ∷ [])) → Walk E P s v
+pub via-walk : {E : Graph} {P : ℕ → Type 0} {t s v : ℕ} {l : List ℕ} → P s → ((w : ℕ) → List·Memᴰ w (l ++ (t ∷ [])) → P w) → Via E t s l → List·Memᴰ v (l ++ (t ∷ [])) → Walk E P s v
 via-walk {t = t} p h (bare e) m = let q = List·Memᴰ·eq-of-singleton m in rw q (edge p e (h t (List·Memᴰ·head refl)))
 via-walk p h (then {v = x} e r) m =
     let px = h x (List·Memᴰ·head refl) in
@@ -35,12 +35,11 @@ via-distinct : {E : Graph} {P : ℕ → Type 0} {t s : ℕ} {l : List ℕ} → (
 via-distinct {s = s} a p h (bare e) = fresh (λ m. a s (via-walk p h (bare e) m)) (fresh List·Memᴰ·not-nil empty)
 via-distinct {s = s} a p h (then {v = x} e r) = fresh (λ m. a s (via-walk p h (then e r) m)) (via-distinct a (h x (List·Memᴰ·head refl)) (λ w i. h w (List·Memᴰ·tail i)) r)
 
-module _ {E : Graph} {s t : ℕ} {l : List ℕ} (b : Bubbloid E s t) (a : Arm E s t l) where
-  pub arm-inside : (v : ℕ) → List·Memᴰ v (l ++ (t ∷ [])) → F E s t v
-  arm-inside v m = ⊎-elim (λ i. a .inner v i .inside) (λ i. let q : v ≡ t = List·Memᴰ·eq-of-singleton i in rw q (exit-inside b)) (List·Memᴰ·append-cases l m)
+pub arm-inside : {E : Graph} {s t : ℕ} {l : List ℕ} → F E s t t → Arm E s t l → (v : ℕ) → List·Memᴰ v (l ++ (t ∷ [])) → F E s t v
+arm-inside {t = t} {l = l} f a v m = ⊎-elim (λ i. a .inner v i .inside) (λ i. let q : v ≡ t = List·Memᴰ·eq-of-singleton i in rw q f) (List·Memᴰ·append-cases l m)
 
-  pub arm-distinct : Distinct (s ∷ l ++ (t ∷ []))
-  arm-distinct = via-distinct (b .acyclicity) start arm-inside (a .path)
+pub arm-distinct : {E : Graph} {s t : ℕ} {l : List ℕ} → Bubbloid E s t → Arm E s t l → Distinct (s ∷ l ++ (t ∷ []))
+arm-distinct b a = via-distinct (b .acyclicity) start (arm-inside (exit-inside b) a) (a .path)
 
 pub arm-thread : {E E′ : Graph} {s t : ℕ} {l : List ℕ} → Superbubble E s t → (E s t → Reaches E t s → ⊥) → Arm E s t l → OneFolded E s t l E′ → Thread E E′ s t (Follows (s ∷ l ++ (t ∷ [])))
 arm-thread {E} {E′} {s} {t} {l} p o a h =
@@ -50,8 +49,8 @@ arm-thread {E} {E′} {s} {t} {l} p o a h =
       superbubble = p;
       edges = h;
       joined = via-edge (a .path);
-      tail-inside = λ f. ⊎-elim (λ q. rw q start) (arm-inside b a _) (List·Memᴰ·cases-cons (follows-tail f));
-      head-inside = λ f. arm-inside b a _ (follows-head f);
+      tail-inside = λ f. ⊎-elim (λ q. rw q start) (arm-inside (exit-inside b) a _) (List·Memᴰ·cases-cons (follows-tail f));
+      head-inside = λ f. arm-inside (exit-inside b) a _ (follows-head f);
       one-after = one-follows d;
       one-before = follows-one d;
       from-entrance = follows-from t l (λ v w f. f);

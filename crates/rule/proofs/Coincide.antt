@@ -85,10 +85,12 @@ module _ {G : Graph → Type 0} {C : Graph → ℕ → ℕ → Type 0} {R : Rule
     }
 
   -- the two numbers returned coincide too
-  pub folded-same : {E E′ E″ : Graph} {c c′ c″ : Counts} {b f f′ l l′ : ℕ} → (one : Folded C R E c b E′ c′ f l) (other : Folded C R E c b E″ c″ f′ l′) → Same E′ E″ c′ c″ × (f ≡ f′) × (l ≡ l′)
-  folded-same {E″ = E″} one other =
+  pub folded-same : {E E′ E″ : Graph} {c c′ c″ : Counts} {b f f′ l l′ : ℕ} → G E → (one : Folded C R E c b E′ c′ f l) (other : Folded C R E c b E″ c″ f′ l′) → Same E′ E″ c′ c″ × (f ≡ f′) × (l ≡ l′)
+  folded-same {E″ = E″} g one other =
       let same = applied-same (one .applied) (other .applied) in
+      let kind = L .fewer (λ u v e. one .applied .edges u v .0 e .0) g in
+      let kind′ = L .fewer (λ u v e. other .applied .edges u v .0 e .0) g in
       let (k, h, q) = one .remaining in
       let (k′, h′, q′) = other .remaining in
-      let carried : Listing (Entrance C E″) k = listing-same (λ v. (λ x. (x .0, L .same (same .edges) (x .1)), λ x. (x .0, L .same (λ u w. (same .edges u w .1, same .edges u w .0)) (x .1)))) h in
+      let carried : Listing (Entrance C E″) k = listing-same (λ v. (λ x. (x .0, L .same kind (same .edges) (x .1)), λ x. (x .0, L .same kind′ (λ u w. (same .edges u w .1, same .edges u w .0)) (x .1)))) h in
       (same, one .how-many ∙ ap length (items-same (one .applied) (other .applied)) ∙ sym (other .how-many), q ∙ ap length (listing-unique carried h′) ∙ sym q′)

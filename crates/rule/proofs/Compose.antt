@@ -33,7 +33,7 @@ module _ {G : Graph → Type 0} {C : Graph → ℕ → ℕ → Type 0} {R : Rule
         let back = inside-back same-inside in
         record {
           candidate = before .0;
-          kept = M .local back (λ v h. same-count v (interior-inside back h)) (two .fit i m .kept);
+          kept = M .local (L .superbubble (two .fit i m .candidate)) back (λ v h. same-count v (interior-inside back h)) (two .fit i m .kept);
           rest = listing-same (λ v. (λ h. (interior-inside back (h .0), h .1), λ h. (interior-inside same-inside (h .0), h .1))) (two .fit i m .rest);
         }
 
@@ -41,7 +41,7 @@ module _ {G : Graph → Type 0} {C : Graph → ℕ → ℕ → Type 0} {R : Rule
   left-alone : (i : Item) → List·Memᴰ i (one .items) → (v : ℕ) → Interior E (i .entrance) (i .exit) v → c₂ v ≡ c₁ v
   left-alone i m v h =
       let entrance : Item → ℕ = λ x. x .entrance in
-      two .untouched v (λ j k l. L .apart (one .fit i m .candidate) (before j k .0) (λ q. before j k .1 (Memᴰ·cast (sym q) (Memᴰ·map entrance m))) h (interior-inside (inside-back (same-inside j k)) l .inside))
+      two .untouched v (λ j k l. L .apart g (one .fit i m .candidate) (before j k .0) (λ q. before j k .1 (Memᴰ·cast (sym q) (Memᴰ·map entrance m))) h (interior-inside (inside-back (same-inside j k)) l .inside))
 
   first-both : entrances (one .items ++ two .items) ≡ take (b₁ + b₂) (one .candidates)
   first-both =

@@ -4,7 +4,7 @@ use Prim.Native.Nat.{ℕ}
 use mathlib.Core.Path.{refl}
 use mathlib.Core.Logic.{_↔_}
 use mathlib.Core.List.{List, [], _∷_, _++_, List·Memᴰ, List·Memᴰ·head, List·Memᴰ·tail}
-use Rattle.bubble.specs.Superbubble.{F, F.start, Bubbloid, Interior}
+use Rattle.bubble.specs.Superbubble.{F, F.start, Interior}
 use Rattle.rule.specs.Lists.{Graph}
 use Rattle.rule.specs.Kept.{Via, Via.bare, Via.then, Arm}
 use Rattle.rule.specs.Laws.{SameInside}
@@ -39,8 +39,8 @@ via-carried : {E E′ : Graph} {P : ℕ → Type 0} {t s : ℕ} {l : List ℕ} �
 via-carried {t = t} h p i (bare {s = s} e) = bare (h s t p (i t (List·Memᴰ·head refl)) e)
 via-carried h p i (then {s = s} {v = v} e r) = let q = i v (List·Memᴰ·head refl) in then (h s v p q e) (via-carried h q (λ w m. i w (List·Memᴰ·tail m)) r)
 
-pub arm-carried : {E E′ : Graph} {s t : ℕ} {l : List ℕ} → Bubbloid E s t → SameInside E E′ s t → Arm E s t l → Arm E′ s t l
-arm-carried b h a = record {
-  path = via-carried (λ u v f g. h .edges u v f g .0) start (arm-inside b a) (a .path);
+pub arm-carried : {E E′ : Graph} {s t : ℕ} {l : List ℕ} → F E s t t → SameInside E E′ s t → Arm E s t l → Arm E′ s t l
+arm-carried f h a = record {
+  path = via-carried (λ u v i j. h .edges u v i j .0) start (arm-inside f a) (a .path);
   inner = λ v m. interior-inside h (a .inner v m);
 }

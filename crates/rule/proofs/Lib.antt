@@ -18,3 +18,12 @@ pub mod Coincide
 pub mod Sums
 pub mod Total
 pub mod Ends
+pub mod Choice
+pub mod Through
+pub mod BestLaws
+pub mod SameEdges
+pub mod Reach
+pub mod Passable
+pub mod Candidates
+pub mod Outermost
+pub mod Demand

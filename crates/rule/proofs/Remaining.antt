@@ -41,7 +41,7 @@ module _ {G : Graph → Type 0} {C : Graph → ℕ → ℕ → Type 0} {R : Rule
   pub other-untouched : {x y v : ℕ} → C E x y → (List·Memᴰ x (entrances (a .items)) → ⊥) → Interior E x y v → c′ v ≡ c v
   other-untouched {x} {v = v} k n i =
       let entrance : Item → ℕ = λ j. j .entrance in
-      a .untouched v (λ j m h. L .apart (a .fit j m .candidate) k (λ q. n (Memᴰ·cast (sym q) (Memᴰ·map entrance m))) h (i .inside))
+      a .untouched v (λ j m h. L .apart g (a .fit j m .candidate) k (λ q. n (Memᴰ·cast (sym q) (Memᴰ·map entrance m))) h (i .inside))
 
   -- as many are folded as the budget, or all if fewer
   pub items-number : length (a .items) ≡ min b (length (a .candidates))

@@ -5,6 +5,7 @@ use mathlib.Core.Path.{refl, sym}
 use mathlib.Core.Logic.{_≢_, _↔_, ⊎-elim}
 use mathlib.Core.List.{List, [], _∷_, map, List·Memᴰ, List·Memᴰ·head, List·Memᴰ·tail, List·Memᴰ·not-nil, List·Memᴰ·cases-cons, Memᴰ·map, Memᴰ·cast}
 use Rattle.bubble.specs.Superbubble.{F, Superbubble}
+use Rattle.bubble.proofs.Facts.{exit-inside}
 use Rattle.bubble.proofs.Pigeonhole.{Distinct, Distinct.fresh}
 use Rattle.rule.specs.Lists.{Graph}
 use Rattle.rule.specs.Kept.{Arm}
@@ -53,7 +54,7 @@ module _ {G : Graph → Type 0} {C : Graph → ℕ → ℕ → Type 0} (L : Cand
     first-inside c n =
         let k = cs i (List·Memᴰ·head refl) in
         let one = arm-thread (L .superbubble (k .candidate)) (L .passed-once g (k .candidate)) (k .path) (first-folded E i) in
-        apart-inside one (L .interior (k .candidate)) (L .superbubble c) n (λ v. L .apart (k .candidate) c n)
+        apart-inside one (L .interior (k .candidate)) (L .superbubble c) n (λ v. L .apart g (k .candidate) c n)
 
     rest-differs : (j : Item) → List·Memᴰ j items → i .entrance ≢ j .entrance
     rest-differs j m q = new (Memᴰ·cast q (Memᴰ·map (λ (x : Item). x .entrance) m))
@@ -66,7 +67,7 @@ module _ {G : Graph → Type 0} {C : Graph → ℕ → ℕ → Type 0} (L : Cand
         let k = cs j (List·Memᴰ·tail m) in
         record {
           candidate = first-others (j .entrance) (j .exit) .1 (k .candidate, λ q. rest-differs j m (sym q));
-          path = arm-carried (L .superbubble (k .candidate) .bubbloid) (rest-inside j m) (k .path);
+          path = arm-carried (exit-inside (L .superbubble (k .candidate) .bubbloid)) (rest-inside j m) (k .path);
         }
 
     rest-folded : {E′ : Graph} → AllFolded E (i ∷ items) E′ → AllFolded (First E i) items E′
@@ -91,15 +92,15 @@ module _ {G : Graph → Type 0} {C : Graph → ℕ → ℕ → Type 0} (L : Cand
           inside-through (first-inside c (λ q. m (sym q))) (r .inside (first-others x y .1 (c, m)) (λ k. n (List·Memᴰ·tail k)));
     }
 
-  after-none : {E E′ : Graph} {x y : ℕ} → AllFolded E [] E′ → After C E E′ [] x y
-  after-none {E} {E′} {x} {y} h =
+  after-none : {E E′ : Graph} {x y : ℕ} → G E → AllFolded E [] E′ → After C E E′ [] x y
+  after-none {E} {E′} {x} {y} g h =
       let to : (u v : ℕ) → E u v → E′ u v = λ u v e. h u v .1 (e, λ i m. absurd (List·Memᴰ·not-nil m)) in
       let back : (u v : ℕ) → E′ u v → E u v = λ u v e. h u v .0 e .0 in
       record {
-        others = (λ c. (L .same (λ u v. (back u v, to u v)) c, List·Memᴰ·not-nil), λ c. L .same (λ u v. (to u v, back u v)) (c .0));
+        others = (λ c. (L .same (L .fewer back g) (λ u v. (back u v, to u v)) c, List·Memᴰ·not-nil), λ c. L .same g (λ u v. (to u v, back u v)) (c .0));
         inside = λ c n. same-edges-inside x y (λ u v. (to u v, back u v));
       }
 
   pub after : {E E′ : Graph} (items : List Item) → G E → ((i : Item) → List·Memᴰ i items → Foldable C E i) → Distinct (entrances items) → AllFolded E items E′ → (x y : ℕ) → After C E E′ items x y
-  after [] g cs d h x y = after-none h
+  after [] g cs d h x y = after-none g h
   after (i ∷ items) g cs (fresh n d) h x y = after-first g cs n (after items (L .fewer (λ u v e. e .0) g) (rest-foldable g cs n) d (rest-folded g cs n h) x y)

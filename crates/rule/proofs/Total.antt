@@ -67,10 +67,10 @@ module _ {G : Graph → Type 0} {C : Graph → ℕ → ℕ → Type 0} {R : Rule
     whole-dropped [] k = sym (sum-zero (i .dropped) (λ v m. M .bare (L .superbubble (f .candidate)) k v (f .rest .holds v .0 m .0)))
     whole-dropped (x ∷ l) k = M .whole (sum c (i .dropped)) (suc (length l)) (omega arith)
 
-  touched-distinct : (items : List Item) → ((i : Item) → List·Memᴰ i items → Fits C R E c i) → Distinct (entrances items) → Distinct (touched items)
+  touched-distinct : (items : List Item) → G E → ((i : Item) → List·Memᴰ i items → Fits C R E c i) → Distinct (entrances items) → Distinct (touched items)
   unfolding touched
-  touched-distinct [] f d = empty
-  touched-distinct (i ∷ items) f (fresh n d) = distinct-append (interior-distinct i fi) (touched-distinct items (λ j m. f j (List·Memᴰ·tail m)) d) apart
+  touched-distinct [] g f d = empty
+  touched-distinct (i ∷ items) g f (fresh n d) = distinct-append (interior-distinct i fi) (touched-distinct items g (λ j m. f j (List·Memᴰ·tail m)) d) apart
     where
       fi : Fits C R E c i
       fi = f i (List·Memᴰ·head refl)
@@ -80,7 +80,7 @@ module _ {G : Graph → Type 0} {C : Graph → ℕ → ℕ → Type 0} {R : Rule
           let (j, h, l) = of-touched items k in
           let fj = f j (List·Memᴰ·tail h) in
           let entrance : Item → ℕ = λ x. x .entrance in
-          L .apart (fi .candidate) (fj .candidate) (λ q. n (Memᴰ·cast q (Memᴰ·map entrance h))) (of-interior i fi v m) (of-interior j fj v l .inside)
+          L .apart g (fi .candidate) (fj .candidate) (λ q. n (Memᴰ·cast q (Memᴰ·map entrance h))) (of-interior i fi v m) (of-interior j fj v l .inside)
 
   module _ {E′ : Graph} {c′ : Counts} {b : ℕ} (g : G E) (a : Applied C R E c b E′ c′) where
     item-sum : (i : Item) → List·Memᴰ i (a .items) → sum c′ (i .arm ++ i .dropped) ≡ sum c (i .arm ++ i .dropped)
@@ -114,5 +114,5 @@ module _ {G : Graph → Type 0} {C : Graph → ℕ → ℕ → Type 0} {R : Rule
                 let inner = of-interior i (a .fit i k) v h in
                 let (u, f, e) = predecessor (L .superbubble (a .fit i k .candidate) .bubbloid) (inner .inside) (inner .not-entrance) in
                 below u v e .1 in
-        total-moved n (touched-distinct (a .items) (a .fit) (items-differ L M g a)) bounded
+        total-moved n (touched-distinct (a .items) g (a .fit) (items-differ L M g a)) bounded
           (λ v out. a .untouched v (λ i m h. out (in-touched (a .items) m (in-interior i (a .fit i m) v h)))) (touched-sum (a .items) (λ i m. m))

@@ -6,9 +6,13 @@ use mathlib.Core.Path.{_≡_}
 use mathlib.Core.Logic.{_↔_}
 use mathlib.Core.List.{List, [], _∷_, _++_, map, List·Memᴰ}
 use lib.ListN.{length, take, getD}
-use Rattle.bubble.specs.Superbubble.{F, Interior, Outermost}
+use Rattle.bubble.specs.Superbubble.{F, Walk, Interior, Outermost}
 use Rattle.rule.specs.Lists.{Graph, Counts, Listing, sum, Follows}
 use Rattle.rule.specs.Kept.{Kept}
+
+-- the graphs that document 01 folds: no walk of one or more edges closes
+abbrev pub NoCycle : Graph → Type 0
+NoCycle E = (v : ℕ) → Walk E (λ u. Unit {0}) v v → ⊥
 
 -- document 01's candidates: the outermost superbubbles with an interior
 pub record Candidate (E : Graph) (s t : ℕ) : Type 0 where

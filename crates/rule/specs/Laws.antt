@@ -1,9 +1,9 @@
 -- The laws that a rule and a set of candidates must meet. Demand 3 holds for every rule and every set of candidates that do.
 -- Assumes nothing.
-use Prim.Native.Nat.{ℕ, _<_}
+use Prim.Native.Nat.{ℕ, _≤_, _<_}
 use mathlib.Core.Path.{_≡_}
 use mathlib.Core.Logic.{_≢_, _↔_}
-use mathlib.Core.List.{List, []}
+use mathlib.Core.List.{List, [], List·Memᴰ}
 use Rattle.bubble.specs.Superbubble.{F, Interior, Reaches, Superbubble}
 use Rattle.rule.specs.Lists.{Graph, Counts, total}
 use Rattle.rule.specs.Kept.{Arm}
@@ -20,11 +20,18 @@ pub record RuleLaws (R : Rule) : Type 1 where
   -- one
   pub one : {E : Graph} {c : Counts} {s t : ℕ} {l k : List ℕ} → Superbubble E s t → R .keeps E c s t l → R .keeps E c s t k → l ≡ k
   -- the rule looks only at U's edges and the interior counts
-  pub local : {E E′ : Graph} {c c′ : Counts} {s t : ℕ} {l : List ℕ} → SameInside E E′ s t → ((v : ℕ) → Interior E s t v → c v ≡ c′ v) → R .keeps E c s t l → R .keeps E′ c′ s t l
+  pub local : {E E′ : Graph} {c c′ : Counts} {s t : ℕ} {l : List ℕ} → Superbubble E s t → SameInside E E′ s t → ((v : ℕ) → Interior E s t v → c v ≡ c′ v) → R .keeps E c s t l → R .keeps E′ c′ s t l
   -- the bare edge is kept only if every interior count is 0
   pub bare : {E : Graph} {c : Counts} {s t : ℕ} → Superbubble E s t → R .keeps E c s t [] → (v : ℕ) → Interior E s t v → c v ≡ 0
   -- the portions of a dropped sum come to that sum
   pub whole : (d k : ℕ) → 0 < k → total (R .portion d k) k ≡ d
+
+-- for a rule that keeps the best path all but the sharing follows from two facts about the score
+pub record ScoreLaws (score : Counts → List ℕ → ℕ) : Type 0 where
+  -- it depends on the path's own counts alone
+  pub own : {c d : Counts} (l : List ℕ) → ((v : ℕ) → List·Memᴰ v l → c v ≡ d v) → score c l ≡ score d l
+  -- a path no better than the bare edge has only counts of 0
+  pub bare : {c : Counts} (l : List ℕ) → score c l ≤ score c [] → (v : ℕ) → List·Memᴰ v l → c v ≡ 0
 
 -- E′ is E with the arm of s, t folded
 abbrev pub OneFolded : Graph → ℕ → ℕ → List ℕ → Graph → Type 0
@@ -35,13 +42,13 @@ pub record CandidateLaws (G : Graph → Type 0) (C : Graph → ℕ → ℕ → T
   -- a graph with fewer edges is of the same kind
   pub fewer : {E E′ : Graph} → ((u v : ℕ) → E′ u v → E u v) → G E → G E′
   -- only which edges there are counts
-  pub same : {E E′ : Graph} {s t : ℕ} → ((u v : ℕ) → E u v ↔ E′ u v) → C E s t → C E′ s t
+  pub same : {E E′ : Graph} {s t : ℕ} → G E → ((u v : ℕ) → E u v ↔ E′ u v) → C E s t → C E′ s t
   -- a candidate is a superbubble with an interior
   pub superbubble : {E : Graph} {s t : ℕ} → C E s t → Superbubble E s t
   pub interior : {E : Graph} {s t : ℕ} → C E s t → (v : ℕ) × Interior E s t v
   -- a candidate with a bare edge from entrance to exit is on no cycle
   pub passed-once : {E : Graph} {s t : ℕ} → G E → C E s t → E s t → Reaches E t s → ⊥
   -- a vertex interior to a candidate lies in no other candidate
-  pub apart : {E : Graph} {s t x y v : ℕ} → C E s t → C E x y → s ≢ x → Interior E s t v → F E x y v → ⊥
+  pub apart : {E : Graph} {s t x y v : ℕ} → G E → C E s t → C E x y → s ≢ x → Interior E s t v → F E x y v → ⊥
   -- the candidates after one is folded are the others
   pub others : {E E′ : Graph} {s t : ℕ} {l : List ℕ} → G E → C E s t → Arm E s t l → OneFolded E s t l E′ → (x y : ℕ) → C E′ x y ↔ (C E x y × (x ≢ s))

@@ -1,0 +1,72 @@
+-- Each interior vertex lies on some arm, and in a graph without a cycle each path from entrance to exit is an arm.
+-- Assumes nothing.
+use Prim.Native.Nat.{ℕ}
+use mathlib.Core.Path.{_≡_, refl, sym}
+use mathlib.Core.Logic.{_≢_, ⊎-elim}
+use mathlib.Core.List.{List, [], _∷_, _++_, List·Memᴰ, List·Memᴰ·head, List·Memᴰ·tail, List·Memᴰ·not-nil, List·Memᴰ·cases-cons, List·Memᴰ·eq-of-singleton, Memᴰ·append-left}
+use native.Mathlib.Decide.{ℕ-discrete}
+use Rattle.bubble.specs.Superbubble.{F, F.start, F.on, B, B.end, B.from, Walk, Walk.edge, Bubbloid, Interior}
+use Rattle.bubble.proofs.Walks.{walk-before}
+use Rattle.rule.specs.Lists.{Graph}
+use Rattle.rule.specs.Kept.{Via, Via.bare, Via.then, Arm}
+use Rattle.rule.specs.Fold.{NoCycle}
+use Rattle.rule.proofs.Arms.{via-walk}
+
+-- a path from u to t whose inner vertices are interior to s, t
+record Tail (E : Graph) (s t u : ℕ) : Type 0 where
+  inner : List ℕ
+  path : Via E t u inner
+  inside : (v : ℕ) → List·Memᴰ v inner → Interior E s t v
+
+module _ {E : Graph} {s t : ℕ} (b : Bubbloid E s t) where
+  -- one more vertex in front
+  longer : {u v : ℕ} → E u v → Interior E s t v → Tail E s t v → Tail E s t u
+  longer {u} {v} e i r = record { inner = v ∷ r .inner; path = then e (r .path); inside = λ w m. ⊎-elim (λ q. rw q i) (r .inside w) (List·Memᴰ·cases-cons m) }
+
+  to-exit : {u : ℕ} → B E s t u → u ≢ t → Tail E s t u
+  to-exit end n = absurd (n refl)
+  to-exit (from {v = v} e n c) m =
+      elim (ℕ-discrete v t) [
+        | yes q ↦ record { inner = []; path = bare (rw q at e); inside = λ w k. absurd (List·Memᴰ·not-nil k) }
+        | no k ↦ longer e (record { inside = b .matching v .1 c; not-entrance = n; not-exit = k }) (to-exit c k)
+      ]
+
+  -- a tail from v reaches back to s, and keeps its vertices
+  from-entrance : {v w : ℕ} → F E s t v → Interior E s t v → (r : Tail E s t v) → List·Memᴰ w (v ∷ r .inner) → (k : Tail E s t s) × List·Memᴰ w (k .inner)
+  unfolding longer
+  from-entrance start i r m = absurd (i .not-entrance refl)
+  from-entrance (on {u = u} f n e) i r m =
+      elim (ℕ-discrete u s) [
+        | yes q ↦ (longer (rw q at e) i r, m)
+        | no k ↦ from-entrance f (record { inside = f; not-entrance = k; not-exit = n }) (longer e i r) (List·Memᴰ·tail m)
+      ]
+
+  pub arm-through : {v : ℕ} → Interior E s t v → (l : List ℕ) × Arm E s t l × List·Memᴰ v l
+  arm-through {v} i =
+      let (r, m) = from-entrance (i .inside) i (to-exit (b .matching v .0 (i .inside)) (i .not-exit)) (List·Memᴰ·head refl) in
+      (r .inner, record { path = r .path; inner = r .inside }, m)
+
+module _ {E : Graph} (a : NoCycle E) where
+  -- each vertex of a path to t leads to t
+  leads : {t u v : ℕ} {l : List ℕ} → Via E t u l → List·Memᴰ v (u ∷ l) → Walk E (λ x. Unit {0}) v t
+  leads (bare e) m = let q = List·Memᴰ·eq-of-singleton m in rw q (edge tt e tt)
+  leads (then e p) m = ⊎-elim (λ q. rw q (walk-before tt e (leads p (List·Memᴰ·head refl)))) (leads p) (List·Memᴰ·cases-cons m)
+
+  not-end : {t u v : ℕ} {l : List ℕ} → Via E t u l → List·Memᴰ v (u ∷ l) → v ≢ t
+  not-end {t} p m q = a t (rw q at (leads p m))
+
+  forward : {s t u v : ℕ} {l : List ℕ} → F E s t u → Via E t u l → List·Memᴰ v l → F E s t v
+  forward f (bare e) m = absurd (List·Memᴰ·not-nil m)
+  forward f (then e p) m =
+      let g = on f (not-end (then e p) (List·Memᴰ·head refl)) e in
+      ⊎-elim (λ q. rw q g) (forward g p) (List·Memᴰ·cases-cons m)
+
+  pub path-arm : {s t : ℕ} {l : List ℕ} → Via E t s l → Arm E s t l
+  path-arm {s} {t} {l} p = record {
+    path = p;
+    inner = λ v m. record {
+      inside = forward start p m;
+      not-entrance = λ q. let w : Walk E (λ x. Unit {0}) s v = via-walk tt (λ x i. tt) p (Memᴰ·append-left (t ∷ []) m) in a s (rw q at w);
+      not-exit = not-end p (List·Memᴰ·tail m);
+    };
+  }
