@@ -54,6 +54,10 @@ count-within c (List·Memᴰ·tail m) = omega (arith, count-within c m)
 pub sum-laws : ScoreLaws sum
 sum-laws = record { own = sum-same; bare = λ {c} l k v m. omega (arith, count-within c m) }
 
+-- a kept bare edge means that every interior count is 0, so that nothing dropped is lost
+pub kept-bare-edge : {E : Graph} {c : Counts} {s t : ℕ} → Superbubble E s t → Kept E c s t [] → (v : ℕ) → Interior E s t v → c v ≡ 0
+kept-bare-edge p = best-bare sum-laws (p .bubbloid)
+
 to-first-whole : (d k n : ℕ) → total (to-first d k) (suc n) ≡ d
 to-first-whole d k zero = omega arith
 to-first-whole d k (suc n) = omega (arith, to-first-whole d k n)

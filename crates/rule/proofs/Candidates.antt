@@ -37,14 +37,14 @@ no-cycle-fewer h a v w = a v (walk-fewer h (λ x u. u) w)
 
 pub candidate-laws : CandidateLaws NoCycle Candidate
 candidate-laws = record {
-    fewer = no-cycle-fewer;
-    same = λ a h c. of-passable (no-cycle-fewer (λ u v. h u v .1) a) (passable-laws .same tt h (to-passable a c));
-    superbubble = λ c. c .outermost .superbubble;
-    interior = λ c. c .interior;
-    passed-once = λ a c. never-passed-again a;
-    apart = λ a c d. passable-laws .apart tt (to-passable a c) (to-passable a d);
-    others = λ {E} {E′} {s} {t} {l} a c arm h x y.
-        let after : NoCycle E′ = no-cycle-fewer (λ u v e. h u v .0 e .0) a in
-        let (forth, back) = passable-laws .others tt (to-passable a c) arm h x y in
-        (λ d. let (e, n) = forth (to-passable after d) in (of-passable a e, n), λ d. of-passable after (back (to-passable a (d .0), d .1)));
-  }
+  fewer = no-cycle-fewer;
+  same = λ a h c. of-passable (no-cycle-fewer (λ u v. h u v .1) a) (passable-laws .same tt h (to-passable a c));
+  superbubble = λ c. c .outermost .superbubble;
+  interior = λ c. c .interior;
+  passed-once = λ a c. never-passed-again a;
+  apart = λ a c d. passable-laws .apart tt (to-passable a c) (to-passable a d);
+  others = λ {E} {E′} {s} {t} {l} a c arm h x y.
+      let after : NoCycle E′ = no-cycle-fewer (λ u v e. h u v .0 e .0) a in
+      let (forth, back) = passable-laws .others tt (to-passable a c) arm h x y in
+      (λ d. let (e, n) = forth (to-passable after d) in (of-passable a e, n), λ d. of-passable after (back (to-passable a (d .0), d .1)));
+}

@@ -1,7 +1,7 @@
 -- The paths of a pair that is clear of a folded superbubble, before and after: what they reach outside its interior is the same, and of the interior they reach the thread.
 -- Assumes nothing.
 use Prim.Native.Nat.{ℕ}
-use mathlib.Core.Path.{_≡_, sym}
+use mathlib.Core.Path.{_≡_, sym, _∙_}
 use mathlib.Core.Logic.{_≢_, _⊎_, inl, inr, ⊎-elim, ⊎-map}
 use native.Mathlib.Decide.{ℕ-discrete}
 use Rattle.bubble.specs.Superbubble.{F, F.start, F.on, B, Reaches, Reaches.none, Reaches.then, Bubbloid, Interior}
@@ -34,36 +34,39 @@ module _ {E E′ : Graph} {s t : ℕ} {N : Graph} (k : Thread E E′ s t N) wher
         | no m ↦ out (record { inside = f; not-entrance = n; not-exit = m })
       ]
 
+  -- of a path before: v is not interior and Q holds of it after, or v is interior and W holds, which is about s
+  abbrev pub Met : (ℕ → Type 0) → Type 0 → ℕ → Type 0
+  Met Q W v = (Q v × (Interior E s t v → ⊥)) ⊎ (Interior E s t v × W)
+
+  -- one more edge: it stays where no end is interior, and a passage of U goes along the thread
+  pub met-step : (P Q : ℕ → Type 0) {W : Type 0} {u v : ℕ} → E u v → (E′ u v → P u → (Interior E s t u → ⊥) → (Interior E s t v → ⊥) → Q v) → (u ≡ s → P u → W) → (v ≡ t → W → Q v) → Met P W u → Met Q W v
+  met-step P Q {W} {u} {v} e edge-stays enter pass = ⊎-elim outside (λ h. inside (h .0 .inside) (h .0 .not-exit) (h .1))
+    where
+      inside : F E s t u → u ≢ t → W → Met Q W v
+      inside f n w =
+          elim (ℕ-discrete v t) [
+            | yes q ↦ inl (pass q w, λ i. i .not-exit q)
+            | no m ↦ inr (record { inside = on f n e; not-entrance = λ q. no-edge-to-entrance bubbloid-of f (rw q at e); not-exit = m }, w)
+          ]
+
+      outside : P u × (Interior E s t u → ⊥) → Met Q W v
+      outside h =
+          elim (ℕ-discrete u s) [
+            | yes q ↦ inside (rw q start) (λ r. bubbloid-of .distinct (sym q ∙ r)) (enter q (h .0))
+            | no n ↦
+                let none : F E s t u → F E s t v → ⊥ = no-edge-inside (h .1) n e in
+                let out : Interior E s t v → ⊥ = λ i. none (closed-backward bubbloid-of (i .inside) (i .not-entrance) e) (i .inside) in
+                inl (edge-stays (k .edges u v .1 (e, λ f g. absurd (none f g))) (h .0) (h .1) out, out)
+          ]
+
 module _ {E E′ : Graph} {s t x y : ℕ} {N : Graph} (k : Thread E E′ s t N) (o : Clear E s t x y) where
   pub along-thread : {v : ℕ} → F E′ x y s → s ≢ y → Reaches N s v → F E′ x y v
   along-thread f n none = f
   along-thread f n (then r m) = on (along-thread f n r) (λ q. o .stop (rw q at (k .tail-inside m)) (λ e. n (sym e))) (stays k m)
 
-  -- v is not interior to s, t and is still reached, or is interior and s is still reached
-  abbrev Carried : ℕ → Type 0
-  Carried v = (F E′ x y v × (Interior E s t v → ⊥)) ⊎ (Interior E s t v × F E′ x y s × (s ≢ y))
-
-  -- after a step from a vertex of U other than t
-  inside-step : {u v : ℕ} → F E s t u → u ≢ t → E u v → F E′ x y s → s ≢ y → Carried v
-  inside-step {u} {v} f m e g n =
-      elim (ℕ-discrete v t) [
-        | yes q ↦ inl (rw q (along-thread g n (k .whole)), λ i. i .not-exit q)
-        | no l ↦ inr (record { inside = on f m e; not-entrance = λ q. no-edge-to-entrance (bubbloid-of k) f (rw q at e); not-exit = l }, g, n)
-      ]
-
-  -- after a step from a vertex that is not interior
-  outside-step : {u v : ℕ} → F E′ x y u → (Interior E s t u → ⊥) → u ≢ y → E u v → Carried v
-  outside-step {u} {v} f out n e =
-      elim (ℕ-discrete u s) [
-        | yes q ↦ inside-step start (bubbloid-of k .distinct) (rw q at e) (rw q at f) (rw q at n)
-        | no m ↦
-            let none : F E s t u → F E s t v → ⊥ = no-edge-inside k out m e in
-            inl (on f n (k .edges u v .1 (e, λ a b. absurd (none a b))), λ i. none (closed-backward (bubbloid-of k) (i .inside) (i .not-entrance) e) (i .inside))
-      ]
-
-  pub carried : {v : ℕ} → F E x y v → Carried v
+  pub carried : {v : ℕ} → F E x y v → Met k (F E′ x y) (F E′ x y s × (s ≢ y)) v
   carried start = inl (start, λ i. o .start (i .inside) (i .not-exit))
-  carried (on f n e) = ⊎-elim (λ h. outside-step (h .0) (h .1) n e) (λ h. inside-step (h .0 .inside) (h .0 .not-exit) e (h .1) (h .2)) (carried f)
+  carried (on f n e) = met-step k (F E′ x y) (F E′ x y) e (λ e′ g p q. on g n e′) (λ q g. (rw q at g, rw q at n)) (λ q w. rw q (along-thread (w .0) (w .1) (k .whole))) (carried f)
 
   pub carried-outside : {v : ℕ} → F E x y v → (Interior E s t v → ⊥) → F E′ x y v
   carried-outside f out = ⊎-elim (λ h. h .0) (λ h. absurd (out (h .0))) (carried f)
@@ -78,7 +81,7 @@ module _ {E E′ : Graph} {s t x y : ℕ} {N : Graph} (k : Thread E E′ s t N) 
   pub along-thread-back : {v : ℕ} → B E′ x y t → t ≢ x → Reaches N v t → B E′ x y v
   along-thread-back b n r = F-reversed .0 (along-thread (thread-reversed k) (clear-reversed (bubbloid-of k) o) (F-reversed .1 b) n (reaches-reversed r))
 
-  pub carried-back : {v : ℕ} → B E x y v → (B E′ x y v × (Interior E s t v → ⊥)) ⊎ (Interior E s t v × B E′ x y t × (t ≢ x))
+  pub carried-back : {v : ℕ} → B E x y v → Met k (B E′ x y) (B E′ x y t × (t ≢ x)) v
   carried-back b =
-      ⊎-map (λ h. (F-reversed .0 (h .0), λ i. h .1 (interior-reversed (bubbloid-of k) .0 i))) (λ h. (interior-reversed (bubbloid-of k) .1 (h .0), F-reversed .0 (h .1), h .2))
+      ⊎-map (λ h. (F-reversed .0 (h .0), λ i. h .1 (interior-reversed (bubbloid-of k) .0 i))) (λ h. (interior-reversed (bubbloid-of k) .1 (h .0), (F-reversed .0 (h .1 .0), h .1 .1)))
       (carried (thread-reversed k) (clear-reversed (bubbloid-of k) o) (F-reversed .1 b))

@@ -35,4 +35,4 @@ best-one {score} {E} {c} {s} {t} {l} {k} a b = ⊎-elim tied (λ h. absurd (⊎-
     tied : score c l ≡ score c k → l ≡ k
     tied q =
         ⊎-elim (λ r. r) (λ h. absurd (⊎-elim (λ i. b .unbeaten l (a .arm) (inr (q, i))) (λ i. a .unbeaten k (b .arm) (inr (sym q, i))) h))
-          (first-difference t l k (λ m. a .arm .inner t m .not-exit refl) (λ m. b .arm .inner t m .not-exit refl))
+        (first-difference t l k (λ m. a .arm .inner t m .not-exit refl) (λ m. b .arm .inner t m .not-exit refl))

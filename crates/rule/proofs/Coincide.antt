@@ -54,7 +54,7 @@ where-is v (i ∷ items) =
     widen n k (neither h) = neither (λ j m. ⊎-elim (λ q. rw q (n, k)) (h j) (List·Memᴰ·cases-cons m))
 
 module _ {G : Graph → Type 0} {C : Graph → ℕ → ℕ → Type 0} {R : Rule} (L : CandidateLaws G C) (M : RuleLaws R) where
-  item-unique : {E : Graph} {c : Counts} {i j : Item} → Fits C R E c i → Fits C R E c j → i .entrance ≡ j .entrance → i ≡ j
+  pub item-unique : {E : Graph} {c : Counts} {i j : Item} → Fits C R E c i → Fits C R E c j → i .entrance ≡ j .entrance → i ≡ j
   item-unique {E} {c} {i} {j} f h p =
       let q : i .exit ≡ j .exit = exit-unique (L .superbubble (f .candidate)) (rw p (L .superbubble (h .candidate))) in
       let r : i .arm ≡ j .arm = M .one (L .superbubble (f .candidate)) (f .kept) (rw (p, q) (h .kept)) in

@@ -18,6 +18,7 @@ pub mod Coincide
 pub mod Sums
 pub mod Total
 pub mod Ends
+pub mod NewRows
 pub mod Choice
 pub mod Through
 pub mod BestLaws
@@ -27,3 +28,4 @@ pub mod Passable
 pub mod Candidates
 pub mod Outermost
 pub mod Demand
+pub mod ByNext

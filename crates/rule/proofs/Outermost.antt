@@ -19,8 +19,8 @@ module _ {E : Graph} {n : ℕ} (below : Below E n) (none : (s t : ℕ) → Candi
   outward zero l h d f p i = omega (arith, distinct-below n d (λ v m. f v m .0))
   outward {s} {t} (suc k) l h d f p i =
       let around : (x y : ℕ) → Superbubble E x y → Nested E s t x y → ⊥ = λ x y q m.
-              let within : (v : ℕ) → List·Memᴰ v (x ∷ l) → (v < n) × F E x y v = λ v j. ⊎-elim (λ e. rw e (entrance-below below (q .bubbloid), start)) (λ o. (f v o .0, m v (f v o .1) .inside)) (List·Memᴰ·cases-cons j) in
-              outward k (x ∷ l) (omega arith) (fresh (λ o. m x (f x o .1) .not-entrance refl) d) within q (s, m s start) in
+      let within : (v : ℕ) → List·Memᴰ v (x ∷ l) → (v < n) × F E x y v = λ v j. ⊎-elim (λ e. rw e (entrance-below below (q .bubbloid), start)) (λ o. (f v o .0, m v (f v o .1) .inside)) (List·Memᴰ·cases-cons j) in
+      outward k (x ∷ l) (omega arith) (fresh (λ o. m x (f x o .1) .not-entrance refl) d) within q (s, m s start) in
       none s t (record { outermost = record { superbubble = p; in-no-other = around }; interior = i })
 
   pub no-interior : (s t : ℕ) → Superbubble E s t → (v : ℕ) → Interior E s t v → ⊥

@@ -68,17 +68,17 @@ module _ {E E′ : Graph} {s t : ℕ} {N : Graph} (k : Thread E E′ s t N) wher
 
     passable-after : Passable E x y → Passable E′ x y
     passable-after p = record {
-          superbubble = superbubble-after k o (p .superbubble);
-          interior = let (v, i) = p .interior in ⊎-elim (λ h. (v, record { inside = h .0; not-entrance = i .not-entrance; not-exit = i .not-exit })) (λ h. (s, record { inside = h .1; not-entrance = λ q. not-entrance (sym q); not-exit = h .2 })) (carried k o (i .inside));
-          passed-once = λ e r. p .passed-once (fewer k x y e) (reaches-fewer (fewer k) r);
-        }
+      superbubble = superbubble-after k o (p .superbubble);
+      interior = let (v, i) = p .interior in ⊎-elim (λ h. (v, record { inside = h .0; not-entrance = i .not-entrance; not-exit = i .not-exit })) (λ h. (s, record { inside = h .1 .0; not-entrance = λ q. not-entrance (sym q); not-exit = h .1 .1 })) (carried k o (i .inside));
+      passed-once = λ e r. p .passed-once (fewer k x y e) (reaches-fewer (fewer k) r);
+    }
 
     passable-before : Passable E′ x y → Passable E x y
     passable-before p = record {
-          superbubble = superbubble-before k o (p .superbubble);
-          interior = let (v, i) = p .interior in (v, record { inside = F-fewer (fewer k) (i .inside); not-entrance = i .not-entrance; not-exit = i .not-exit });
-          passed-once = λ e r. p .passed-once (bare-stays e) (still-reaches k stop-outside start-outside r);
-        }
+      superbubble = superbubble-before k o (p .superbubble);
+      interior = let (v, i) = p .interior in (v, record { inside = F-fewer (fewer k) (i .inside); not-entrance = i .not-entrance; not-exit = i .not-exit });
+      passed-once = λ e r. p .passed-once (bare-stays e) (still-reaches k stop-outside start-outside r);
+    }
       where
         bare-stays : E x y → E′ x y
         bare-stays e = k .edges x y .1 (e, λ f g. absurd (elim (ℕ-discrete x t) [ yes q ↦ no-edge-from-exit (bubbloid-of k) g (rw q at e) | no n ↦ o .start f n ]))
@@ -86,9 +86,9 @@ module _ {E E′ : Graph} {s t : ℕ} {N : Graph} (k : Thread E E′ s t N) wher
   -- what lies around a pair that is clear of s, t is clear of it too
   around-clear : {x y a b : ℕ} → Clear E s t x y → Superbubble E a b → Nested E x y a b → Clear E s t a b
   around-clear {x} {y} {a} {b} o q n = record {
-        start = λ f m. elim (ℕ-discrete a s) [ yes r ↦ whole r | no l ↦ inside (nest q (k .superbubble) (record { inside = f; not-entrance = l; not-exit = m })) ];
-        stop = λ f m. elim (ℕ-discrete b t) [ yes r ↦ whole (entrance-unique (rw r at q) (k .superbubble)) | no l ↦ inside (nest-by-exit q (k .superbubble) (record { inside = f; not-entrance = m; not-exit = l })) ];
-      }
+    start = λ f m. elim (ℕ-discrete a s) [ yes r ↦ whole r | no l ↦ inside (nest q (k .superbubble) (record { inside = f; not-entrance = l; not-exit = m })) ];
+    stop = λ f m. elim (ℕ-discrete b t) [ yes r ↦ whole (entrance-unique (rw r at q) (k .superbubble)) | no l ↦ inside (nest-by-exit q (k .superbubble) (record { inside = f; not-entrance = m; not-exit = l })) ];
+  }
     where
       i : Interior E a b x
       i = n x start
@@ -115,12 +115,12 @@ module _ {E E′ : Graph} {s t : ℕ} {N : Graph} (k : Thread E E′ s t N) wher
 
   outermost-after : {x y : ℕ} → OutermostPassable E s t → OutermostPassable E x y → x ≢ s → OutermostPassable E′ x y
   outermost-after {x} {y} p q n = record {
-        passable = passable-after (apart-clear (k .superbubble) (q .passable .superbubble) (λ e. n (sym e)) (λ v. outermost-apart p q (λ e. n (sym e)))) (q .passable);
-        in-no-other = λ a b r m.
-            let before = passable-before (interior-clear k (r .superbubble) (r .interior .1)) r in
-            let i = m x start in
-            q .in-no-other a b before (nest (q .passable .superbubble) (before .superbubble) (record { inside = F-fewer (fewer k) (i .inside); not-entrance = i .not-entrance; not-exit = i .not-exit }));
-      }
+    passable = passable-after (apart-clear (k .superbubble) (q .passable .superbubble) (λ e. n (sym e)) (λ v. outermost-apart p q (λ e. n (sym e)))) (q .passable);
+    in-no-other = λ a b r m.
+        let before = passable-before (interior-clear k (r .superbubble) (r .interior .1)) r in
+        let i = m x start in
+        q .in-no-other a b before (nest (q .passable .superbubble) (before .superbubble) (record { inside = F-fewer (fewer k) (i .inside); not-entrance = i .not-entrance; not-exit = i .not-exit }));
+  }
 
 -- every graph
 abbrev pub AnyGraph : Graph → Type 0
@@ -128,13 +128,13 @@ AnyGraph E = Unit {0}
 
 pub passable-laws : CandidateLaws AnyGraph OutermostPassable
 passable-laws = record {
-    fewer = λ h g. tt;
-    same = λ g. outermost-same;
-    superbubble = λ p. p .passable .superbubble;
-    interior = λ p. p .passable .interior;
-    passed-once = λ g p. p .passable .passed-once;
-    apart = λ g. outermost-apart;
-    others = λ g p a h x y.
-        let k = arm-thread (p .passable .superbubble) (p .passable .passed-once) a h in
-        (outermost-before k, λ q. outermost-after k p (q .0) (q .1));
-  }
+  fewer = λ h g. tt;
+  same = λ g. outermost-same;
+  superbubble = λ p. p .passable .superbubble;
+  interior = λ p. p .passable .interior;
+  passed-once = λ g p. p .passable .passed-once;
+  apart = λ g. outermost-apart;
+  others = λ g p a h x y.
+      let k = arm-thread (p .passable .superbubble) (p .passable .passed-once) a h in
+      (outermost-before k, λ q. outermost-after k p (q .0) (q .1));
+}

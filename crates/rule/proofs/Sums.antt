@@ -66,7 +66,7 @@ total-off : (c : Counts) {l : List ℕ} (n : ℕ) → Distinct l → ((v : ℕ) 
 total-off c n empty h = let q : total c n ≡ total (off c []) n = total-same n (λ v k. sym (off-other c List·Memᴰ·not-nil)) in omega (arith, q)
 total-off c n (fresh {a = a} {l = l} m d) h =
     let one : total (off c l) n ≡ off c l a + total (off c (a ∷ l)) n =
-            total-one n (h a (List·Memᴰ·head refl)) (off-listed c (List·Memᴰ·head refl)) (λ v k. off-same c (a ∷ l) l v (λ i. ⊎-elim (λ q. absurd (k q)) (λ j. j) (List·Memᴰ·cases-cons i)) List·Memᴰ·tail) in
+    total-one n (h a (List·Memᴰ·head refl)) (off-listed c (List·Memᴰ·head refl)) (λ v k. off-same c (a ∷ l) l v (λ i. ⊎-elim (λ q. absurd (k q)) (λ j. j) (List·Memᴰ·cases-cons i)) List·Memᴰ·tail) in
     omega (arith, one, off-other c m, total-off c n d (λ v i. h v (List·Memᴰ·tail i)))
 
 pub total-moved : {c d : Counts} {l : List ℕ} (n : ℕ) → Distinct l → ((v : ℕ) → List·Memᴰ v l → v < n) → ((v : ℕ) → (List·Memᴰ v l → ⊥) → d v ≡ c v) → sum d l ≡ sum c l → total d n ≡ total c n

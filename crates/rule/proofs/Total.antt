@@ -110,9 +110,9 @@ module _ {G : Graph → Type 0} {C : Graph → ℕ → ℕ → Type 0} {R : Rule
     total-kept n below =
         let l = touched (a .items) in
         let bounded : (v : ℕ) → List·Memᴰ v l → v < n = λ v m.
-                let (i, k, h) = of-touched (a .items) m in
-                let inner = of-interior i (a .fit i k) v h in
-                let (u, f, e) = predecessor (L .superbubble (a .fit i k .candidate) .bubbloid) (inner .inside) (inner .not-entrance) in
-                below u v e .1 in
+        let (i, k, h) = of-touched (a .items) m in
+        let inner = of-interior i (a .fit i k) v h in
+        let (u, f, e) = predecessor (L .superbubble (a .fit i k .candidate) .bubbloid) (inner .inside) (inner .not-entrance) in
+        below u v e .1 in
         total-moved n (touched-distinct (a .items) g (a .fit) (items-differ L M g a)) bounded
-          (λ v out. a .untouched v (λ i m h. out (in-touched (a .items) m (in-interior i (a .fit i m) v h)))) (touched-sum (a .items) (λ i m. m))
+        (λ v out. a .untouched v (λ i m h. out (in-touched (a .items) m (in-interior i (a .fit i m) v h)))) (touched-sum (a .items) (λ i m. m))

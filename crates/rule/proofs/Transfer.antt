@@ -1,24 +1,24 @@
 -- A pair that is clear of a folded superbubble is a bubbloid before exactly if it is one after.
 -- Assumes nothing.
 use Prim.Native.Nat.{ℕ}
-use mathlib.Core.Path.{_≡_, refl, sym}
-use mathlib.Core.Logic.{_≢_, _↔_, _⊎_, inl, inr, ⊎-elim}
+use mathlib.Core.Path.{_≡_, refl, sym, _∙_}
+use mathlib.Core.Logic.{_≢_, _↔_, _⊎_, inl, inr, ⊎-elim, ⊎-map}
 use native.Mathlib.Decide.{ℕ-discrete}
 use Rattle.bubble.specs.Superbubble.{F, F.start, F.on, B, B.end, B.from, Walk, Walk.edge, Walk.more, Reaches, Reaches.none, Reaches.then, Bubbloid, Interior}
 use Rattle.bubble.proofs.Walks.{walk-append, walk-end, F-reaches}
 use Rattle.bubble.proofs.Reversal.{rev, F-reversed, B-reversed}
-use Rattle.bubble.proofs.Facts.{closed-backward, no-edge-to-entrance, no-edge-from-exit}
+use Rattle.bubble.proofs.Facts.{exit-inside, closed-backward, no-edge-to-entrance, no-edge-from-exit}
 use Rattle.bubble.proofs.FromSet.{make}
 use Rattle.rule.specs.Lists.{Graph}
 use Rattle.rule.proofs.Fewer.{F-fewer, B-fewer, walk-fewer}
 use Rattle.rule.proofs.Thread.{Thread, thread-reversed, Clear, clear-reversed}
-use Rattle.rule.proofs.Carry.{bubbloid-of, fewer, stays, no-edge-inside, along-thread, along-thread-back, carried, carried-outside, carried-back, reached-on-thread}
+use Rattle.rule.proofs.Carry.{bubbloid-of, fewer, stays, no-edge-inside, Met, met-step, along-thread, along-thread-back, carried, carried-outside, carried-back, reached-on-thread}
 
 module _ {E E′ : Graph} {s t x y : ℕ} {N : Graph} (k : Thread E E′ s t N) (o : Clear E s t x y) where
   -- F within B, carried to the graph after
   match-after : ((v : ℕ) → F E x y v → B E x y v) → (v : ℕ) → F E′ x y v → B E′ x y v
   match-after h v f =
-      ⊎-elim (λ g. g .0) (λ g. along-thread-back k o (g .1) (g .2) (k .to-exit (reached-on-thread k o f (g .0) .1))) (carried-back k o (h v (F-fewer (fewer k) f)))
+      ⊎-elim (λ g. g .0) (λ g. along-thread-back k o (g .1 .0) (g .1 .1) (k .to-exit (reached-on-thread k o f (g .0) .1))) (carried-back k o (h v (F-fewer (fewer k) f)))
 
   -- a path after that leads from U to y, s other than y, passes t
   passes-exit : {u : ℕ} → s ≢ y → B E′ x y u → F E s t u → u ≢ t → B E′ x y t × (t ≢ x)
@@ -38,9 +38,9 @@ module _ {E E′ : Graph} {s t x y : ℕ} {N : Graph} (k : Thread E E′ s t N) 
   match-before : ((v : ℕ) → F E′ x y v → B E′ x y v) → (v : ℕ) → F E x y v → B E x y v
   match-before h v f = ⊎-elim (λ g. B-fewer (fewer k) (h v (g .0))) inside (carried k o f)
     where
-      inside : Interior E s t v × F E′ x y s × (s ≢ y) → B E x y v
+      inside : Interior E s t v × (F E′ x y s × (s ≢ y)) → B E x y v
       inside g =
-          let (b, n) = passes-exit (g .2) (h s (g .1)) start (bubbloid-of k .distinct) in
+          let (b, n) = passes-exit (g .1 .1) (h s (g .1 .0)) start (bubbloid-of k .distinct) in
           inside-to-exit n (B-fewer (fewer k) b) (bubbloid-of k .matching v .0 (g .0 .inside))
 
 -- a walk along the thread
@@ -73,7 +73,7 @@ module _ {E E′ : Graph} {s t x y : ℕ} {N : Graph} (k : Thread E E′ s t N) 
             | no l ↦
                 let i : Interior E s t u = record { inside = k .tail-inside m; not-entrance = l; not-exit = λ r. no-edge-from-exit (bubbloid-of k) (k .head-inside m) (rw r at (k .joined m)) } in
                 let h : F E x y u = F-fewer (fewer k) (c .matching u .1 (from (stays k m) n (c .matching t .0 g′))) in
-                ⊎-elim (λ a. absurd (a .1 i)) (λ a. absurd (a .2 q)) (carried k o h)
+                ⊎-elim (λ a. absurd (a .1 i)) (λ a. absurd (a .1 .1 q)) (carried k o h)
           ]
 
       last-of : s ≡ y → t ≢ x → {v : ℕ} → v ≡ t → Reaches N s v → Walk E′ (F E′ x y) s t
@@ -87,40 +87,28 @@ module _ {E E′ : Graph} {s t x y : ℕ} {N : Graph} (k : Thread E E′ s t N) 
   abbrev Led : ℕ → ℕ → Type 0
   Led a v = (a ≡ v) ⊎ Walk E′ (F E′ x y) a v
 
-  -- v is not interior and is led to from a, or is interior and s is led to
-  abbrev Walked : ℕ → ℕ → Type 0
-  Walked a v = (Walk E′ (F E′ x y) a v × (Interior E s t v → ⊥)) ⊎ (Interior E s t v × Led a s)
+  -- one more edge of a walk before
+  walk-step : {a u v : ℕ} → F E x y u → E u v → F E x y v → Met k (Led a) (Led a s) u → Met k (Walk E′ (F E′ x y) a) (Led a s) v
+  walk-step {a} {u} {v} f e g = met-step k (Led a) (Walk E′ (F E′ x y) a) e edge-stays (λ q d. rw q at d) (λ r d. rw r (⊎-elim (λ q. rw q (through r)) (λ w. walk-append w (through r)) d))
+    where
+      edge-stays : E′ u v → Led a u → (Interior E s t u → ⊥) → (Interior E s t v → ⊥) → Walk E′ (F E′ x y) a v
+      edge-stays e′ d p q = let g′ = carried-outside k o g q in ⊎-elim (λ r. rw r (edge (carried-outside k o f p) e′ g′)) (λ w. more w e′ g′) d
 
-  -- after a step from a vertex of U other than t
-  walk-inside : {a u v : ℕ} → F E s t u → u ≢ t → E u v → (v ≡ t → Walk E′ (F E′ x y) s t) → Led a s → Walked a v
-  walk-inside {v = v} f m e w d =
-      elim (ℕ-discrete v t) [
-        | yes q ↦ inl (rw q (⊎-elim (λ r. rw r (w q)) (λ p. walk-append p (w q)) d), λ i. i .not-exit q)
-        | no l ↦ inr (record { inside = on f m e; not-entrance = λ q. no-edge-to-entrance (bubbloid-of k) f (rw q at e); not-exit = l }, d)
-      ]
-
-  -- after a step from a vertex that is not interior
-  walk-outside : {a u v : ℕ} → Led a u → (Interior E s t u → ⊥) → F E x y u → E u v → F E x y v → Walked a v
-  walk-outside {a} {u} {v} d out f e g =
-      elim (ℕ-discrete u s) [
-        | yes q ↦ walk-inside start (bubbloid-of k .distinct) (rw q at e) (λ r. pass-bare (rw q at f) (rw r at g) (rw (q, r) at e)) (rw q at d)
-        | no m ↦
-            let none : F E s t u → F E s t v → ⊥ = no-edge-inside k out m e in
-            let far : Interior E s t v → ⊥ = λ i. none (closed-backward (bubbloid-of k) (i .inside) (i .not-entrance) e) (i .inside) in
-            let e′ : E′ u v = k .edges u v .1 (e, λ i j. absurd (none i j)) in
-            let g′ = carried-outside k o g far in
-            inl (⊎-elim (λ q. rw q (edge (carried-outside k o f out) e′ g′)) (λ w. more w e′ g′) d, far)
-      ]
+      -- a passage of U ends with the bare edge or comes from an interior vertex
+      through : v ≡ t → Walk E′ (F E′ x y) s t
+      through r =
+          elim (ℕ-discrete u s) [
+            | yes q ↦ pass-bare (rw q at f) (rw r at g) (rw (q, r) at e)
+            | no n ↦ ⊎-elim (λ h. absurd (no-edge-inside k (h .1) n e (closed-backward (bubbloid-of k) (at-exit r) (λ q. bubbloid-of k .distinct (sym q ∙ r)) e) (at-exit r))) (λ h. pass (h .1 .0) (h .1 .1)) (carried k o f)
+          ]
+        where
+          at-exit : v ≡ t → F E s t v
+          at-exit r = rw r (exit-inside (bubbloid-of k))
 
   -- a walk before, from a vertex that is not interior
-  walked : {a v : ℕ} → (Interior E s t a → ⊥) → Walk E (F E x y) a v → Walked a v
-  walked out (edge f e g) = walk-outside (inl refl) out f e g
-  walked {a} {v} out (more {v = u} w e g) = ⊎-elim (λ h. walk-outside (inr (h .0)) (h .1) (walk-end w) e g) inside (walked out w)
-    where
-      inside : Interior E s t u × Led a s → Walked a v
-      inside h =
-          let (i, f, n) : Interior E s t u × F E′ x y s × (s ≢ y) = ⊎-elim (λ p. absurd (p .1 (h .0))) (λ p. p) (carried k o (walk-end w)) in
-          walk-inside (i .inside) (i .not-exit) e (λ q. pass f n) (h .1)
+  walked : {a v : ℕ} → (Interior E s t a → ⊥) → Walk E (F E x y) a v → Met k (Walk E′ (F E′ x y) a) (Led a s) v
+  walked out (edge f e g) = walk-step f e g (inl (inl refl, out))
+  walked out (more w e g) = walk-step (walk-end w) e g (⊎-map (λ h. (inr (h .0), h .1)) (λ h. h) (walked out w))
 
   no-cycle-outside : {v : ℕ} → (Interior E s t v → ⊥) → Walk E (F E x y) v v → ⊥
   no-cycle-outside {v} out w = ⊎-elim (λ h. c .acyclicity v (h .0)) (λ h. out (h .0)) (walked out w)
