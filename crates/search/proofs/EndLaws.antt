@@ -1,18 +1,18 @@
 -- Laws of where the search ends: a lone ready vertex is the exit, and without a ready vertex there is none. Assumes nothing.
 use Prim.Native.Nat.{ℕ, zero, suc, _+_, _-_, _≤_, _<_}
-use mathlib.Core.Path.{_≡_, refl, sym, _∙_, ap}
+use mathlib.Core.Path.{_≡_, sym, _∙_, ap}
 use mathlib.Core.Logic.{_≢_}
-use mathlib.Core.List.{List, [], _∷_}
+use mathlib.Core.List.{List}
 use native.Mathlib.Omega.{arith}
 use native.Mathlib.Decide.{ℕ-discrete, decLt}
 use lib.ListN.{length, getD, take}
-use Rattle.table.specs.Table.{vertices, row, In, Edge, WellFormed}
-use Rattle.bubble.specs.Superbubble.{F, Walk, Walk.edge, Walk.more, Bubbloid, Superbubble}
+use Rattle.table.specs.Table.{vertices, row, In, Edge}
+use Rattle.bubble.specs.Superbubble.{F, Walk, Walk.edge, Bubbloid}
 use Rattle.bubble.proofs.Walks.{walk-before}
 use Rattle.bubble.proofs.Facts.{exit-inside, closed-backward, predecessor}
 use Rattle.bubble.proofs.FromOrder.{Placed, Rising, rising-bubbloid, rising-set}
 use Rattle.bubble.proofs.Pigeonhole.{places-below}
-use Rattle.search.specs.Search.{Parents, Visited}
+use Rattle.search.specs.Search.{Visited}
 use Rattle.search.specs.Steps.{waits, unvisited, Alone}
 use Rattle.search.proofs.SumLaws.{sum-term}
 use Rattle.search.proofs.WaitLaws.{none-waits}
@@ -20,8 +20,7 @@ use Rattle.search.proofs.OccurrenceLaws.{in-take, take-in}
 use Rattle.search.proofs.UnvisitedLaws.{unvisited-parent, edge-below}
 use Rattle.search.proofs.Going.{Going, tail-most, seen}
 
-module _ {starts targets parents left order : List ℕ} {s head tail waiting : ℕ} (well : WellFormed starts targets) (counted : Parents (vertices starts) targets parents)
-  (g : Going starts targets parents left order s head tail waiting) where
+module _ {starts targets parents left order : List ℕ} {s head tail waiting : ℕ} (g : Going starts targets parents left order s head tail waiting) where
   -- the vertex at the head is alone, and does not lead back to the entrance
   module _ (lone : Alone head tail waiting) (forward : In s (row starts targets (getD order head 0)) → ⊥) where
     none-waits-now : (v : ℕ) → v < vertices starts → waits (getD left v 0) (getD parents v 0) ≡ 0
@@ -32,7 +31,7 @@ module _ {starts targets parents left order : List ℕ} {s head tail waiting : �
     -- the children of the visited vertices stand among the places
     children : (i : ℕ) {v : ℕ} → i < head → Edge starts targets (getD order i 0) v → Placed (λ x. getD order x 0) head v
     children i {v} l e =
-        let none : getD left v 0 ≡ 0 = none-waits (getD left v 0) (getD parents v 0) (none-waits-now v (edge-below starts targets well e)) (seen well counted g i v l e) in
+        let none : getD left v 0 ≡ 0 = none-waits (getD left v 0) (getD parents v 0) (none-waits-now v (edge-below starts targets (g .well-formed) e)) (seen g i v l e) in
         let (j, m, q) = g .whole (getD order i 0) v none e in
         record { at = j; bound = omega (arith, lone .last); same = q }
 
@@ -72,7 +71,7 @@ module _ {starts targets parents left order : List ℕ} {s head tail waiting : �
     )
 
     within : head ≤ length order
-    within = omega (arith, lone .last, tail-most well counted g, g .room)
+    within = omega (arith, lone .last, tail-most g, g .room)
 
     pub end-found : Visited starts targets order s (getD order head 0) head
     end-found = record {
@@ -104,7 +103,7 @@ module _ {starts targets parents left order : List ℕ} {s head tail waiting : �
     Stuck v = F (Edge starts targets) s t v × (In v (take head order) → ⊥)
 
     within-order : head ≤ length order
-    within-order = omega (arith, g .passed, tail-most well counted g, g .room)
+    within-order = omega (arith, g .passed, tail-most g, g .room)
 
     -- it has a parent of its kind
     stuck-parent : {v : ℕ} → Stuck v → (u : ℕ) × Edge starts targets u v × Stuck u
@@ -146,7 +145,7 @@ module _ {starts targets parents left order : List ℕ} {s head tail waiting : �
         b .acyclicity (back i .0) (rw (← q) at (rw e at (back-walk i (j - suc i))))
 
     back-below : (k : ℕ) → back k .0 < vertices starts
-    back-below k = edge-below starts targets well (back-edge k)
+    back-below k = edge-below starts targets (g .well-formed) (back-edge k)
 
     -- which n vertices cannot carry
     pub end-dry : ⊥
@@ -154,5 +153,5 @@ module _ {starts targets parents left order : List ℕ} {s head tail waiting : �
         omega (
           arith,
           places-below (λ k. back k .0) (suc (vertices starts)) (vertices starts) (λ k l. back-below k) (λ i j l m q.
-            elim (decLt i j) [ yes h ↦ absurd (back-apart i j h q) | no n ↦ elim (decLt j i) [ yes h ↦ absurd (back-apart j i h (sym q)) | no k ↦ omega arith ] ]),
+              elim (decLt i j) [ yes h ↦ absurd (back-apart i j h q) | no n ↦ elim (decLt j i) [ yes h ↦ absurd (back-apart j i h (sym q)) | no k ↦ omega arith ] ]),
         )

@@ -1,25 +1,29 @@
--- The search under way: what holds before each visit, and what a turn makes of it. Assumes nothing.
-use Prim.Native.Nat.{ℕ, zero, suc, _+_, _-_, _≤_, _<_}
+-- The search under way: what holds before each visit, and that no exit is missed. Assumes nothing.
+use Prim.Native.Nat.{ℕ, zero, suc, _+_, _≤_, _<_}
 use mathlib.Core.Path.{_≡_, refl, sym, _∙_, ap}
 use mathlib.Core.Logic.{_≢_, _⊎_, inl, inr, ⊎-elim}
-use mathlib.Core.List.{List, [], _∷_}
+use mathlib.Core.List.{List, []}
 use native.Mathlib.Omega.{arith}
 use native.Mathlib.Decide.{ℕ-discrete, decLt}
 use lib.ListN.{length, getD, take, set, length-set}
-use lib.Seq.{getD-set-same, take-length}
+use lib.Seq.{getD-set-same}
 use Rattle.table.specs.Table.{vertices, row, In, Edge, WellFormed}
 use Rattle.bubble.specs.Superbubble.{F, F.start, F.on, B, B.end, B.from, Bubbloid}
 use Rattle.bubble.proofs.Facts.{no-edge-to-entrance, successor}
 use Rattle.bubble.proofs.Pigeonhole.{places-below}
-use Rattle.search.specs.Search.{occurrences, Parents, Searchable}
-use Rattle.search.specs.Steps.{waits, waiters, unvisited, Walkable, Walked, Lowered, Alone}
-use Rattle.search.proofs.SumLaws.{sum-term, sum-zero}
-use Rattle.search.proofs.WaitLaws.{waits-none, waits-all, none-waits}
-use Rattle.search.proofs.OccurrenceLaws.{occurs-in, in-take, take-in, take-same, apart-new}
-use Rattle.search.proofs.UnvisitedLaws.{none-unvisited, visited-less, less-visited, visit-more, unvisited-all, row-below, edge-below}
+use Rattle.search.specs.Search.{Parents, Searchable}
+use Rattle.search.specs.Steps.{waits, waiters, unvisited, Lowered, Alone}
+use Rattle.search.proofs.SumLaws.{sum-zero}
+use Rattle.search.proofs.WaitLaws.{waits-none, waits-all}
+use Rattle.search.proofs.OccurrenceLaws.{in-take, take-in}
+use Rattle.search.proofs.UnvisitedLaws.{none-unvisited, visited-less, less-visited, unvisited-all}
 
--- the first `head` of the order are visited, those up to `tail` are ready: each later entry has all its parents visited, at places before its own
+-- The first `head` of the order are visited, those up to `tail` are ready. They begin with s and are different vertices. What is left of a vertex's
+-- parents are those not visited. After s, the entries are the vertices with parents and none left, and each has its parents at places before its own.
+-- No visited vertex leads to s, each has a child, and none is the exit of a bubbloid from s.
 pub record Going (starts targets parents left order : List ℕ) (s head tail waiting : ℕ) : Type 0 where
+  pub well-formed : WellFormed starts targets
+  pub counted : Parents (vertices starts) targets parents
   pub passed : head ≤ tail
   pub some : 0 < tail
   pub room : vertices starts ≤ length order
@@ -40,6 +44,8 @@ pub record Going (starts targets parents left order : List ℕ) (s head tail wai
 -- at the entrance
 pub going-none : {starts targets parents left order : List ℕ} {s : ℕ} → Searchable starts targets parents left order s → Going starts targets parents left (set order 0 s) s 0 1 0
 going-none {starts} {targets} {parents} {left} {order} {s} p = record {
+  well-formed = p .well-formed;
+  counted = p .counted;
   passed = omega arith;
   some = omega arith;
   room = rw (length-set order 0 s) (p .room);
@@ -64,8 +70,7 @@ going-none {starts} {targets} {parents} {left} {order} {s} p = record {
     all : (v : ℕ) → getD left v 0 ≡ unvisited starts targets [] v
     all v = rw (p .whole) (p .counted .count v ∙ sym (unvisited-all starts targets (p .well-formed) v))
 
-module _ {starts targets parents left order : List ℕ} {s head tail waiting : ℕ} (well : WellFormed starts targets) (counted : Parents (vertices starts) targets parents)
-    (g : Going starts targets parents left order s head tail waiting) where
+module _ {starts targets parents left order : List ℕ} {s head tail waiting : ℕ} (g : Going starts targets parents left order s head tail waiting) where
   pub tail-most : tail ≤ vertices starts
   tail-most = places-below (λ i. getD order i 0) tail (vertices starts) (g .below) (g .apart)
 
@@ -82,7 +87,7 @@ module _ {starts targets parents left order : List ℕ} {s head tail waiting : �
   visited i l = in-take order head i l (omega (arith, g .passed, tail-most, g .room))
 
   all : (v : ℕ) → getD parents v 0 ≡ unvisited starts targets [] v
-  all v = counted .count v ∙ sym (unvisited-all starts targets well v)
+  all v = g .counted .count v ∙ sym (unvisited-all starts targets (g .well-formed) v)
 
   -- a child of a visited vertex has a parent visited
   pub seen : (i v : ℕ) → i < head → Edge starts targets (getD order i 0) v → getD left v 0 < getD parents v 0
@@ -117,10 +122,6 @@ module _ {starts targets parents left order : List ℕ} {s head tail waiting : �
       pub no-back : In s (row starts targets (getD order head 0)) → ⊥
       no-back i = no-edge-to-entrance b (inside head ready) (record { vertex = g .below head ready; listed = i })
 
-      -- a ready vertex that is not the exit has a child
-      pub some-child : getD order head 0 ≢ t → length (row starts targets (getD order head 0)) ≡ 0 → ⊥
-      some-child n q = let (v, f, e) = successor b (inside head ready) n in omega (arith, e .listed .inside)
-
       module _ (exit : getD order head 0 ≡ t) where
         later : 0 < head
         later = elim (ℕ-discrete head 0) [ yes q ↦ absurd (b .distinct (sym (g .first) ∙ ap (λ x. getD order x 0) (sym q) ∙ exit)) | no n ↦ omega arith ]
@@ -152,11 +153,11 @@ module _ {starts targets parents left order : List ℕ} {s head tail waiting : �
             ⊎-elim
             (λ q. let same : getD order head 0 ≡ v = exit ∙ sym q in waits-none (getD left v 0) (getD parents v 0) (rw same at (g .none-left head later ready)))
             (λ place.
-                let (j, a, q) = place in
-                elim (ℕ-discrete j 0) [
-                  | yes z ↦ absurd (g .none-back i m (rw (sym q ∙ ap (λ x. getD order x 0) z ∙ g .first) at e))
-                  | no k ↦ waits-none (getD left v 0) (getD parents v 0) (rw q at (g .none-left j (omega arith) (omega arith)))
-                ])
+            let (j, a, q) = place in
+            elim (ℕ-discrete j 0) [
+              | yes z ↦ absurd (g .none-back i m (rw (sym q ∙ ap (λ x. getD order x 0) z ∙ g .first) at e))
+              | no k ↦ waits-none (getD left v 0) (getD parents v 0) (rw q at (g .none-left j (omega arith) (omega arith)))
+            ])
             (all-visited (b .matching v .0 (on (inside i (omega arith)) (g .before-exit t b i m) e)))
 
         none-wait : (v : ℕ) → waits (getD left v 0) (getD parents v 0) ≡ 0
@@ -176,3 +177,7 @@ module _ {starts targets parents left order : List ℕ} {s head tail waiting : �
       -- where the search goes on, the ready vertex is not the exit
       pub not-exit : (Alone head tail waiting → ⊥) → getD order head 0 ≢ t
       not-exit n q = n (exit-alone q)
+
+      -- and has a child
+      pub some-child : (Alone head tail waiting → ⊥) → length (row starts targets (getD order head 0)) ≡ 0 → ⊥
+      some-child n q = let (v, f, e) = successor b (inside head ready) (not-exit n) in omega (arith, e .listed .inside)

@@ -8,3 +8,4 @@ pub mod UndoLaws
 pub mod Going
 pub mod TurnLaws
 pub mod EndLaws
+pub mod AnswerLaws

@@ -1,14 +1,13 @@
 -- Laws of the counts: a loop that sets each to 0, and one that adds 1 for each number it passes. Assumes nothing.
 use Prim.Native.Nat.{ℕ, _+_, _≤_, _<_}
-use mathlib.Core.Path.{_≡_, refl, sym, _∙_, ap}
-use mathlib.Core.Logic.{_≢_}
+use mathlib.Core.Path.{_≡_, refl, sym, _∙_}
 use mathlib.Core.List.{List}
 use native.Mathlib.Omega.{arith}
 use native.Mathlib.Decide.{ℕ-discrete, decLt}
 use lib.ListN.{length, getD, take, set, length-set, List·getD-eq-default}
 use lib.Seq.{getD-set-same, getD-set-other, ext-getD}
 use Rattle.table.specs.Table.{Below}
-use Rattle.search.specs.Search.{occurrences, Parents}
+use Rattle.search.specs.Search.{Parents}
 use Rattle.search.specs.Steps.{Zeros, Tallying, Tallied}
 use Rattle.search.proofs.OccurrenceLaws.{same-yes, same-no, occurrences-more, occurrences-least, occurrences-most}
 

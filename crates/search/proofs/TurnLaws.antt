@@ -1,27 +1,26 @@
 -- Laws of a turn of the search: the row of the vertex at the head can be passed, and the search goes on behind it. Assumes nothing.
-use Prim.Native.Nat.{ℕ, zero, suc, _+_, _-_, _≤_, _<_}
+use Prim.Native.Nat.{ℕ, _+_, _≤_, _<_}
 use mathlib.Core.Path.{_≡_, refl, sym, _∙_, ap}
 use mathlib.Core.Logic.{_≢_}
-use mathlib.Core.List.{List, [], _∷_}
+use mathlib.Core.List.{List}
 use native.Mathlib.Omega.{arith}
 use native.Mathlib.Decide.{ℕ-discrete, decLt}
 use lib.ListN.{length, getD, take}
 use lib.Seq.{take-length}
-use Rattle.table.specs.Table.{vertices, row, In, Edge, WellFormed}
+use Rattle.table.specs.Table.{vertices, row, In, Edge}
 use Rattle.bubble.specs.Superbubble.{Bubbloid}
-use Rattle.search.specs.Search.{occurrences, Parents}
+use Rattle.search.specs.Search.{occurrences}
 use Rattle.search.specs.Steps.{unvisited, Walkable, Walked, Alone}
 use Rattle.search.proofs.OccurrenceLaws.{occurs-in, take-in, take-same, apart-new}
 use Rattle.search.proofs.UnvisitedLaws.{none-unvisited, visit-more, row-below, edge-below}
 use Rattle.search.proofs.Going.{Going, tail-most, not-exit}
 
-module _ {starts targets parents left order : List ℕ} {s head tail waiting : ℕ} (well : WellFormed starts targets) (counted : Parents (vertices starts) targets parents)
-  (g : Going starts targets parents left order s head tail waiting) (ready : head < tail) (forward : In s (row starts targets (getD order head 0)) → ⊥) where
+module _ {starts targets parents left order : List ℕ} {s head tail waiting : ℕ} (g : Going starts targets parents left order s head tail waiting) (ready : head < tail) (forward : In s (row starts targets (getD order head 0)) → ⊥) where
   vertex : getD order head 0 < vertices starts
   vertex = g .below head ready
 
   within : head < length order
-  within = omega (arith, tail-most well counted g, g .room)
+  within = omega (arith, tail-most g, g .room)
 
   -- what is left behind the vertex at the head
   taken : (v : ℕ) → unvisited starts targets (take (head + 1) order) v + occurrences v (row starts targets (getD order head 0)) ≡ getD left v 0
@@ -40,9 +39,9 @@ module _ {starts targets parents left order : List ℕ} {s head tail waiting : �
 
   pub turn-walkable : Walkable (row starts targets (getD order head 0)) parents left order tail waiting
   turn-walkable = record {
-    rises = well .rows-rise (getD order head 0) vertex;
-    below = rw (g .each) (row-below starts targets well (getD order head 0) vertex);
-    counted = g .each ∙ sym (counted .each);
+    rises = g .well-formed .rows-rise (getD order head 0) vertex;
+    below = rw (g .each) (row-below starts targets (g .well-formed) (getD order head 0) vertex);
+    counted = g .each ∙ sym (g .counted .each);
     unpassed = λ v. omega (arith, taken v);
     room = omega (arith, g .each, g .room);
     vertices = λ i l. rw (g .each) (g .below i l);
@@ -52,14 +51,14 @@ module _ {starts targets parents left order : List ℕ} {s head tail waiting : �
   }
 
   module _ {left′ order′ : List ℕ} {tail′ waiting′ : ℕ} (reached : Alone head tail waiting → ⊥) (some : length (row starts targets (getD order head 0)) ≢ 0)
-    (w : Walked (row starts targets (getD order head 0)) parents left order tail (length (row starts targets (getD order head 0))) left′ order′ tail′ waiting′) where
+      (w : Walked (row starts targets (getD order head 0)) parents left order tail (length (row starts targets (getD order head 0))) left′ order′ tail′ waiting′) where
     lower : (v : ℕ) → getD left′ v 0 + occurrences v (row starts targets (getD order head 0)) ≡ getD left v 0
     lower v = rw (take-length (row starts targets (getD order head 0))) at (w .lowered v)
 
     lowered : (v : ℕ) → getD left′ v 0 ≡ unvisited starts targets (take (head + 1) order′) v
     lowered v =
         let same : take (head + 1) order ≡ take (head + 1) order′ =
-          take-same order order′ (head + 1) (omega (arith, within)) (omega (arith, within, w .same-order)) (λ i l. sym (w .kept i (omega arith))) in
+        take-same order order′ (head + 1) (omega (arith, within)) (omega (arith, within, w .same-order)) (λ i l. sym (w .kept i (omega arith))) in
         rw same at (let q : getD left′ v 0 ≡ unvisited starts targets (take (head + 1) order) v = omega (arith, lower v, taken v) in q)
 
     -- a new entry is a child of the vertex at the head
@@ -70,7 +69,7 @@ module _ {starts targets parents left order : List ℕ} {s head tail waiting : �
     below i l =
         elim (decLt i tail) [
           | yes m ↦ rw (w .kept i m) (g .below i m)
-          | no n ↦ edge-below starts targets well (edge i (omega arith) l)
+          | no n ↦ edge-below starts targets (g .well-formed) (edge i (omega arith) l)
         ]
 
     none-left : (i : ℕ) → 0 < i → i < tail′ → getD left′ (getD order′ i 0) 0 ≡ 0
@@ -126,12 +125,14 @@ module _ {starts targets parents left order : List ℕ} {s head tail waiting : �
     before-exit : (t : ℕ) → Bubbloid (Edge starts targets) s t → (i : ℕ) → i < head + 1 → getD order′ i 0 ≢ t
     before-exit t b i l q =
         elim (ℕ-discrete i head) [
-          | yes e ↦ not-exit well counted g b ready reached (sym (w .kept i (omega arith) ∙ ap (λ x. getD order x 0) e) ∙ q)
+          | yes e ↦ not-exit g b ready reached (sym (w .kept i (omega arith) ∙ ap (λ x. getD order x 0) e) ∙ q)
           | no n ↦ g .before-exit t b i (omega arith) (sym (w .kept i (omega arith)) ∙ q)
         ]
 
     pub turn-more : Going starts targets parents left′ order′ s (head + 1) tail′ waiting′
     turn-more = record {
+      well-formed = g .well-formed;
+      counted = g .counted;
       passed = omega (arith, w .longer);
       some = omega (arith, w .longer);
       room = rw (w .same-order) (g .room);

@@ -2,13 +2,13 @@
 use Prim.Native.Nat.{ℕ, zero, suc, _+_, _-_, _≤_, _<_}
 use mathlib.Core.Path.{_≡_, refl, sym, _∙_, ap}
 use mathlib.Core.Logic.{_≢_}
-use mathlib.Core.List.{List, [], _∷_, _++_}
+use mathlib.Core.List.{List, []}
 use native.Mathlib.Numerals.{add-one}
 use native.Mathlib.Omega.{arith}
-use native.Mathlib.Decide.{ℕ-discrete, decLt}
-use lib.ListN.{length, getD, take, drop, length-take, length-drop}
+use native.Mathlib.Decide.{decLt}
+use lib.ListN.{length, getD, take, drop, length-take}
 use lib.Seq.{getD-take, getD-drop, take-add, take-length}
-use Rattle.table.specs.Table.{vertices, row, In, Edge, Below, RowLies, WellFormed}
+use Rattle.table.specs.Table.{vertices, row, In, Edge, Below, WellFormed}
 use Rattle.table.proofs.RowLaws.{row-lies}
 use Rattle.search.specs.Search.{occurrences}
 use Rattle.search.specs.Steps.{sum, unless, unvisited}

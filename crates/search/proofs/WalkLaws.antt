@@ -2,16 +2,16 @@
 use Prim.Native.Nat.{ℕ, zero, suc, _+_, _-_, _≤_, _<_}
 use mathlib.Core.Path.{_≡_, refl, sym, _∙_, ap}
 use mathlib.Core.Logic.{_≢_}
-use mathlib.Core.List.{List, [], _∷_}
+use mathlib.Core.List.{List, _∷_}
 use native.Mathlib.Nat.{le-of-suc-le-suc}
 use native.Mathlib.Omega.{arith}
 use native.Mathlib.Decide.{ℕ-discrete, decLt}
-use lib.ListN.{length, getD, take, set, length-set}
+use lib.ListN.{length, getD, take, length-set}
 use lib.Seq.{getD-set-same, getD-set-other}
 use Rattle.table.specs.Table.{In}
 use Rattle.bubble.proofs.Pigeonhole.{places-below}
 use Rattle.search.specs.Search.{occurrences}
-use Rattle.search.specs.Steps.{sum, ready, waits, waiters, Passable, Passed, Walkable, Walked}
+use Rattle.search.specs.Steps.{sum, waits, waiters, Passable, Passed, Walkable, Walked}
 use Rattle.search.proofs.SumLaws.{sum-change, sum-term, sum-most}
 use Rattle.search.proofs.WaitLaws.{ready-yes, ready-no, ready-most, waits-most}
 use Rattle.search.proofs.OccurrenceLaws.{same-yes, same-no, occurrences-more, occurrences-least, in-take, take-in, rises-apart}

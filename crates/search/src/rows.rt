@@ -1,10 +1,10 @@
-// A visited vertex passes its row: each edge lowers what is left of its target's parents, and a target with none left is queued.
+// The walk over a visited vertex's row: each edge takes one from what is left of its target's parents, and a target with none left is queued.
 ghost use mathlib.Core.Path.{_≡_};
+ghost use lib.ListN.{length};
 ghost use Rattle.search.specs.Steps.{Passable, Passed, Walkable, Walked};
 ghost use Rattle.search.specs.Steps.{ready as Steps·ready, waits as Steps·waits};
-ghost use lib.ListN.{length};
 
-// How far the queue reaches, and how many vertices have some but not all of their parents visited.
+// How far the queue reaches, and how many vertices wait: some but not all of their parents are visited.
 pub struct Front {
     pub tail: usize,
     pub waiting: usize,
@@ -20,7 +20,7 @@ fn ready(left: u32) -> usize
     0
 }
 
-// 1 for a vertex with some but not all of its parents visited, else 0.
+// 1 for a vertex that waits, else 0.
 fn waits(left: u32, parents: u32) -> usize
     ensures { λ r. ⌜ r ≡ Steps·waits left parents ⌝ }
 {
@@ -33,7 +33,7 @@ fn waits(left: u32, parents: u32) -> usize
     0
 }
 
-// Passes one edge, to u.
+// Passes one edge, to u. The place behind the queue takes u, and the queue grows over it if no parent of u is left.
 fn pass(parents: &[u32], left: &mut [u32], order: &mut [u32], front: Front, u: u32) -> Front
     requires { ⌜ Passable (now parents) (now left) (now order) u (front .tail) (front .waiting) ⌝ }
     ensures { λ r. ⌜ Passed (now (parents .entry)) (now (left .entry)) (now (order .entry)) (now (left .exit)) (now (order .exit)) u (front .tail) (front .waiting) (r .tail) (r .waiting) ⌝ }

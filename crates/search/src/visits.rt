@@ -1,7 +1,7 @@
-// The search itself: vertices are visited once all their parents are, until the one that is ready is the only one reached.
-ghost use Rattle.table.specs.Verdict.{Says};
+// The search itself: a vertex is visited once all its parents are, until one is ready and no other is reached: the exit.
 ghost use Prim.Native.Nat.{_<_};
 ghost use Rattle.table.specs.Table.{WellFormed};
+ghost use Rattle.table.specs.Verdict.{Says};
 ghost use Rattle.search.specs.Search.{Searchable, Sought};
 ghost use Rattle.search.specs.Steps.{Alone, Lowered, Ran};
 use crate::Exit;
@@ -15,7 +15,7 @@ pub struct Run {
     pub visited: usize,
 }
 
-// Whether the vertex at the head is the only one that is reached and not visited, and not the entrance.
+// Whether the vertex at the head is not the entrance, and no other is reached but not visited.
 fn alone(head: usize, front: Front) -> bool
     requires { ⌜ head < front .tail ⌝ }
     ensures { λ r. ⌜ Says r (Alone head (front .tail) (front .waiting)) ⌝ }
@@ -32,7 +32,7 @@ fn alone(head: usize, front: Front) -> bool
     true
 }
 
-// Visits vertices from s on, until one is the exit or there can be none.
+// Visits vertices from s on, until one is the exit or there can be none. The first `head` of the order are visited, those up to the front's tail are ready.
 fn visit(
     starts: &[u32],
     targets: &[u32],

@@ -9,14 +9,14 @@ clear-requires c κs = search needs
 
 tally-requires : tie.Need-tally-requires
 tally-requires c κs = let st = c .before .before .before .before .before .before .before in
-    tally-zeros (st .args .targets .now) (st .args .parents .now) (c .before .before .before .clear .last .0) (st .pre .1) (st .pre .0) (c .before .before .before .clear .ensures)
+    tally-zeros (st .args .targets .now) (st .args .parents .now) _ (st .pre .1) (st .pre .0) (c .before .before .before .clear .ensures)
 
 same-length : tie.Need-same-length
 same-length c = search needs
 
 returns : tie.Need-returns
-returns c = let st = c .before .before .before .before .before .before .before .before .before .before in
-    zeros-tallied (st .args .targets .now) (st .args .parents .now) (c .before .before .before .before .before .before .clear .last .0) (c .before .before .tally .last .1 .0) (c .before .before .before .before .before .before .clear .ensures) (c .before .before .tally .ensures)
+returns c = let lent = c .before .before .before .before .before .before .before .before .before .before .args in
+    zeros-tallied (lent .targets .now) (lent .parents .now) _ _ (c .before .before .before .before .before .before .clear .ensures) (c .before .before .tally .ensures)
 
 pub count-parents-spec : {M : Type 1} → statement M
 count-parents-spec = tie.close (tie.spec clear-requires tally-requires same-length returns)

@@ -1,8 +1,7 @@
 -- `search::counts::tally` meets its contract. The loop's invariant: the counts are larger by the numbers passed. Assumes nothing.
-use Prim.Native.Nat.{_+_, _-_, _≤_}
-use mathlib.Core.Path.{_≡_}
+use Prim.Native.Nat.{_-_, _≤_}
 use native.Mathlib.Omega.{arith}
-use lib.ListN.{length, getD, take, length-set}
+use lib.ListN.{length, getD, take}
 use lib.Seq.{take-all}
 use borrow.Author.Needs.{needs}
 use Rattle.search.specs.Steps.{Tallied}

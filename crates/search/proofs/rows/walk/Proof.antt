@@ -10,7 +10,8 @@ use Rattle.search.proofs.rows.walk.Statement.{statement}
 use Rattle.search.proofs.rows.walk.Tie as tie
 
 abbrev Inv-loop : tie.InvT-loop
-Inv-loop row parents left₀ order₀ at₀ k₀ left order at k = (k ≤ length row) × Walked row parents left₀ order₀ (at₀ .tail) k left order (at .tail) (at .waiting)
+Inv-loop row parents left₀ order₀ at₀ k₀ left order at k =
+    (k ≤ length row) × Walked row parents left₀ order₀ (at₀ .tail) k left order (at .tail) (at .waiting)
 
 abbrev μ-loop : tie.MeasureT-loop
 μ-loop row parents left₀ order₀ at₀ k₀ left order at k = length row - k
@@ -25,7 +26,8 @@ shared-slice-read-pass : tie.Need-shared-slice-read-pass Inv-loop μ-loop
 shared-slice-read-pass c = search needs
 
 pass-requires : tie.Need-pass-requires Inv-loop μ-loop
-pass-requires c κs = walk-passable (c .before .before .before .before .before .before .before .before .before .pre) (c .before .before .before .before .loop .inv .1) (omega arith)
+pass-requires c κs = let p = c .before .before .before .before .before .before .before .before .before .pre in
+    walk-passable p (c .before .before .before .before .loop .inv .1) (omega arith)
 
 add-k : tie.Need-add-k Inv-loop μ-loop
 add-k c = search needs
@@ -34,7 +36,9 @@ loop-less : tie.Need-loop-less Inv-loop μ-loop
 loop-less c = search needs
 
 loop-again : tie.Need-loop-again Inv-loop μ-loop
-loop-again c = (omega arith, walk-more (c .before .before .before .before .before .before .before .before .before .before .before .before .before .before .pre) (c .before .before .before .before .before .before .before .before .before .loop .inv .1) (omega arith) (c .before .before .before .before .pass .ensures))
+loop-again c = let p = c .before .before .before .before .before .before .before .before .before .before .before .before .before .before .pre in
+    let w = c .before .before .before .before .before .before .before .before .before .loop .inv .1 in
+    (omega arith, walk-more p w (omega arith) (c .before .before .before .before .pass .ensures))
 
 same-length : tie.Need-same-length Inv-loop μ-loop
 same-length c = c .before .loop .inv .1 .same-left

@@ -6,15 +6,18 @@ use lib.ListN.{length, getD, length-set}
 use borrow.Author.Needs.{needs}
 use Rattle.table.specs.Table.{vertices, row, In}
 use Rattle.table.proofs.RowLaws.{row-lies}
-use Rattle.search.specs.Steps.{Alone}
-use Rattle.search.proofs.Going.{Going, going-none, tail-most, going-lowered, no-back, some-child, not-exit}
+use Rattle.search.specs.declared.Exit.{Exit}
+use Rattle.search.specs.Search.{Searched}
+use Rattle.search.specs.Steps.{Alone, Ran}
+use Rattle.search.proofs.Going.{Going, going-none, tail-most, going-lowered, no-back, some-child}
 use Rattle.search.proofs.TurnLaws.{turn-walkable, turn-more}
 use Rattle.search.proofs.EndLaws.{end-found, end-dry}
 use Rattle.search.proofs.visits.visit.Statement.{statement}
 use Rattle.search.proofs.visits.visit.Tie as tie
 
 abbrev Inv-loop : tie.InvT-loop
-Inv-loop starts targets parents left₀ order₀ s head₀ front₀ left order head front = (length order ≡ length order₀) × Going starts targets parents left order s head (front .tail) (front .waiting)
+Inv-loop starts targets parents left₀ order₀ s head₀ front₀ left order head front =
+    (length order ≡ length order₀) × Going starts targets parents left order s head (front .tail) (front .waiting)
 
 abbrev μ-loop : tie.MeasureT-loop
 μ-loop starts targets parents left₀ order₀ s head₀ front₀ left order head front = vertices starts - head
@@ -26,12 +29,24 @@ same-left c = let p = c .before .before .before .before .before .before .pre in 
 same-order : (c : tie.At-loop Inv-loop μ-loop) → length (c .loop .order) ≡ length (c .before .before .before .before .before .before .args .order .now)
 same-order c = let st = c .before .before .before .before .before .before in c .loop .inv .0 ∙ length-set (st .args .order .now) 0 (st .args .s)
 
+-- what an answer leaves
+ended : (c : tie.At-loop Inv-loop μ-loop) (exit : Exit) →
+    let lent = c .before .before .before .before .before .before .args in
+    Searched (lent .starts .now) (lent .targets .now) (lent .s) exit (c .loop .order) →
+    Ran (lent .starts .now) (lent .targets .now) (c .loop .left) (lent .order .now) (c .loop .order) (lent .s) exit (c .loop .head)
+ended c exit answer = record { same = same-order c; searched = answer; lowered = going-lowered (c .loop .inv .1) }
+
 -- the row holds no edge back to the entrance
-forward : (c : tie.Else2 Inv-loop μ-loop) → In (c .before .before .before .before .before .before .before .before .before .before .before .before .args .s) (row (c .before .before .before .before .before .before .before .before .before .before .before .before .args .starts .now) (c .before .before .before .before .before .before .before .before .before .before .before .before .args .targets .now) (getD (c .before .before .before .before .before .before .loop .order) (c .before .before .before .before .before .before .loop .head) 0)) → ⊥
+forward : (c : tie.Else2 Inv-loop μ-loop) →
+    let at = c .before .before .before .before .before .before in
+    let lent = at .before .before .before .before .before .before .args in
+    In (lent .s) (row (lent .starts .now) (lent .targets .now) (getD (at .loop .order) (at .loop .head) 0)) → ⊥
 forward c = rw (c .before .before .row .ensures) at (rw (c .if2 .left) at (c .before .holds .ensures))
 
 -- and its vertex is not alone
-not-alone : (c : tie.Else3 Inv-loop μ-loop) → Alone (c .before .before .before .before .before .before .before .before .loop .head) (c .before .before .before .before .before .before .before .before .loop .front .tail) (c .before .before .before .before .before .before .before .before .loop .front .waiting) → ⊥
+not-alone : (c : tie.Else3 Inv-loop μ-loop) →
+    let at = c .before .before .before .before .before .before .before .before .loop in
+    Alone (at .head) (at .front .tail) (at .front .waiting) → ⊥
 not-alone c = rw (c .if3 .left) at (c .before .alone .ensures)
 
 slice-write-order : tie.Need-slice-write-order Inv-loop μ-loop
@@ -43,22 +58,19 @@ loop-holds c = let p = c .before .before .before .before .before .pre in
     (refl, going-none p)
 
 mul-v : tie.Need-mul-v Inv-loop μ-loop
-mul-v c = let p = c .before .before .before .before .before .before .before .before .pre in
-    let g = c .before .before .loop .inv .1 in
-    omega (arith, tail-most (p .well-formed) (p .counted) g, g .room)
+mul-v c = let g = c .before .before .loop .inv .1 in
+    omega (arith, tail-most g, g .room)
 
 slice-read-v : tie.Need-slice-read-v Inv-loop μ-loop
-slice-read-v c = let p = c .before .before .before .before .before .before .before .before .before .pre in
-    let g = c .before .before .before .loop .inv .1 in
-    omega (arith, tail-most (p .well-formed) (p .counted) g, g .room)
+slice-read-v c = let g = c .before .before .before .loop .inv .1 in
+    omega (arith, tail-most g, g .room)
 
 cast-row : tie.Need-cast-row Inv-loop μ-loop
 cast-row c = omega (arith, c .slice-known3 .given (c .before .before .before .loop .head))
 
 row-requires : tie.Need-row-requires Inv-loop μ-loop
-row-requires c κs = let p = c .before .before .before .before .before .before .before .before .before .pre in
-    let g = c .before .before .before .loop .inv .1 in
-    row-lies _ _ (p .well-formed .starts-fit) _ (g .below (c .before .before .before .loop .head) (omega arith))
+row-requires c κs = let g = c .before .before .before .loop .inv .1 in
+    row-lies _ _ (g .well-formed .starts-fit) _ (g .below (c .before .before .before .loop .head) (omega arith))
 
 holds-requires : tie.Need-holds-requires Inv-loop μ-loop
 holds-requires c κs = search needs
@@ -70,9 +82,9 @@ same-length-2 : tie.Need-same-length-2 Inv-loop μ-loop
 same-length-2 c = same-order (c .before .before .before .before .before .before)
 
 returns : tie.Need-returns Inv-loop μ-loop
-returns c = let p = c .before .before .before .before .before .before .before .before .before .before .before .before .pre in
-    let g = c .before .before .before .before .before .before .loop .inv .1 in
-    record { same = same-order (c .before .before .before .before .before .before); searched = λ t b. no-back (p .well-formed) (p .counted) g (b .bubbloid) (omega arith) (rw (c .before .before .row .ensures) at (rw (c .if2 .taken) at (c .before .holds .ensures))); lowered = going-lowered (p .well-formed) (p .counted) g }
+returns c = let g = c .before .before .before .before .before .before .loop .inv .1 in
+    let back = rw (c .before .before .row .ensures) at (rw (c .if2 .taken) at (c .before .holds .ensures)) in
+    ended (c .before .before .before .before .before .before) _ (λ t b. no-back g (b .bubbloid) (omega arith) back)
 
 alone-requires : tie.Need-alone-requires Inv-loop μ-loop
 alone-requires c κs = omega arith
@@ -84,9 +96,9 @@ same-length-4 : tie.Need-same-length-4 Inv-loop μ-loop
 same-length-4 c = same-order (c .before .before .before .before .before .before .before .before)
 
 returns-2 : tie.Need-returns-2 Inv-loop μ-loop
-returns-2 c = let p = c .before .before .before .before .before .before .before .before .before .before .before .before .before .before .pre in
-    let g = c .before .before .before .before .before .before .before .before .loop .inv .1 in
-    record { same = same-order (c .before .before .before .before .before .before .before .before); searched = end-found (p .well-formed) (p .counted) g (rw (c .if3 .taken) at (c .before .alone .ensures)) (forward (c .before .before)); lowered = going-lowered (p .well-formed) (p .counted) g }
+returns-2 c = let g = c .before .before .before .before .before .before .before .before .loop .inv .1 in
+    let lone = rw (c .if3 .taken) at (c .before .alone .ensures) in
+    ended (c .before .before .before .before .before .before .before .before) _ (end-found g lone (forward (c .before .before)))
 
 same-length-5 : tie.Need-same-length-5 Inv-loop μ-loop
 same-length-5 c = same-left (c .before .before .before .before .before .before .before .before .before)
@@ -95,28 +107,29 @@ same-length-6 : tie.Need-same-length-6 Inv-loop μ-loop
 same-length-6 c = same-order (c .before .before .before .before .before .before .before .before .before)
 
 returns-3 : tie.Need-returns-3 Inv-loop μ-loop
-returns-3 c = let p = c .before .before .before .before .before .before .before .before .before .before .before .before .before .before .before .pre in
-    let g = c .before .before .before .before .before .before .before .before .before .loop .inv .1 in
-    record { same = same-order (c .before .before .before .before .before .before .before .before .before); searched = λ t b. some-child (p .well-formed) (p .counted) g (b .bubbloid) (omega arith) (not-exit (p .well-formed) (p .counted) g (b .bubbloid) (omega arith) (not-alone (c .before))) (rw (c .before .before .before .before .before .row .ensures) at (c .if4 .taken)); lowered = going-lowered (p .well-formed) (p .counted) g }
+returns-3 c = let g = c .before .before .before .before .before .before .before .before .before .loop .inv .1 in
+    let none = rw (c .before .before .before .before .before .row .ensures) at (c .if4 .taken) in
+    ended (c .before .before .before .before .before .before .before .before .before) _ (λ t b. some-child g (b .bubbloid) (omega arith) (not-alone (c .before)) none)
 
 walk-requires : tie.Need-walk-requires Inv-loop μ-loop
-walk-requires c κs = let p = c .before .before .before .before .before .before .before .before .before .before .before .before .before .before .before .before .before .pre in
-    let g = c .before .before .before .before .before .before .before .before .before .before .before .loop .inv .1 in
-    rw (c .before .before .before .before .before .before .before .row .ensures) (turn-walkable (p .well-formed) (p .counted) g (omega arith) (forward (c .before .before .before .before .before)))
+walk-requires c κs = let g = c .before .before .before .before .before .before .before .before .before .before .before .loop .inv .1 in
+    rw (c .before .before .before .before .before .before .before .row .ensures) (turn-walkable g (omega arith) (forward (c .before .before .before .before .before)))
 
 add-head : tie.Need-add-head Inv-loop μ-loop
 add-head c = search needs
 
 loop-less : tie.Need-loop-less Inv-loop μ-loop
-loop-less c = let p = c .before .before .before .before .before .before .before .before .before .before .before .before .before .before .before .before .before .before .before .before .before .before .pre in
-    let g = c .before .before .before .before .before .before .before .before .before .before .before .before .before .before .before .before .loop .inv .1 in
-    omega (arith, tail-most (p .well-formed) (p .counted) g)
+loop-less c = let g = c .before .before .before .before .before .before .before .before .before .before .before .before .before .before .before .before .loop .inv .1 in
+    omega (arith, tail-most g)
 
 loop-again : tie.Need-loop-again Inv-loop μ-loop
-loop-again c = let p = c .before .before .before .before .before .before .before .before .before .before .before .before .before .before .before .before .before .before .before .before .before .before .pre in
-    let g = c .before .before .before .before .before .before .before .before .before .before .before .before .before .before .before .before .loop .inv .1 in
-    let w = c .before .before .before .before .walk .ensures in
-    (w .same-order ∙ c .before .before .before .before .before .before .before .before .before .before .before .before .before .before .before .before .loop .inv .0, turn-more (p .well-formed) (p .counted) g (omega arith) (forward (c .before .before .before .before .before .before .before .before .before .before)) (not-alone (c .before .before .before .before .before .before .before .before)) (rw (c .before .before .before .before .before .before .before .before .before .before .before .before .row .ensures) at (c .before .before .before .before .before .before .before .if4 .left)) (rw (c .before .before .before .before .before .before .before .before .before .before .before .before .row .ensures) at w))
+loop-again c = let g = c .before .before .before .before .before .before .before .before .before .before .before .before .before .before .before .before .loop .inv .1 in
+    let row-is = c .before .before .before .before .before .before .before .before .before .before .before .before .row .ensures in
+    let some = rw row-is at (c .before .before .before .before .before .before .before .if4 .left) in
+    let w = c .before .before .before .before .walk .ensures in (
+      w .same-order ∙ c .before .before .before .before .before .before .before .before .before .before .before .before .before .before .before .before .loop .inv .0,
+      turn-more g (omega arith) (forward (c .before .before .before .before .before .before .before .before .before .before)) (not-alone (c .before .before .before .before .before .before .before .before)) some (rw row-is at w),
+    )
 
 same-length-7 : tie.Need-same-length-7 Inv-loop μ-loop
 same-length-7 c = same-left (c .before .before)
@@ -125,9 +138,8 @@ same-length-8 : tie.Need-same-length-8 Inv-loop μ-loop
 same-length-8 c = same-order (c .before .before)
 
 returns-4 : tie.Need-returns-4 Inv-loop μ-loop
-returns-4 c = let p = c .before .before .before .before .before .before .before .before .pre in
-    let g = c .before .before .loop .inv .1 in
-    record { same = same-order (c .before .before); searched = λ t b. end-dry (p .well-formed) (p .counted) g (omega arith) (b .bubbloid); lowered = going-lowered (p .well-formed) (p .counted) g }
+returns-4 c = let g = c .before .before .loop .inv .1 in
+    ended (c .before .before) _ (λ t b. end-dry g (omega arith) (b .bubbloid))
 
 pub visit-spec : {M : Type 1} → statement M
 visit-spec =
