@@ -6,13 +6,10 @@ use native.Mathlib.Nat.{not-suc-le-zero, le-of-suc-le-suc, mul-zero, mul-suc, mu
 use native.Mathlib.Numerals.{add-one}
 use native.Mathlib.Omega.{arith}
 use lib.ListN.{length, getD, take, drop, set, length-append, length-take, length-drop}
-use lib.Seq.{drop-cons, drop-drop, take-add, take-at, drop-at, set-at, length-take-le, sets-eq, paste-zero}
+use lib.Seq.{drop-drop, take-add, take-at, drop-at, length-take-le, sets-eq, paste-zero}
 use lib.Dec.{lit<}
+use Rattle.table.proofs.FrontLaws.{one-at, front-more}
 use Rattle.image.specs.Bytes.{valueOf, bytesOf, numbersOf, spelled, over}
-
--- the byte at a place, and the rest
-pub one-at : (bs : List ℕ) (at : ℕ) → at < length bs → drop at bs ≡ getD bs at 0 ∷ drop (at + 1) bs
-one-at bs at h = rw (add-one at) (drop-cons bs at 0 h)
 
 -- the four bytes from a place on
 four-at : (bs : List ℕ) (at : ℕ) → at + 4 ≤ length bs
@@ -51,11 +48,6 @@ numbers-suc k (suc count) bs =
 pub numbers-length : (k count : ℕ) (bs : List ℕ) → length (numbersOf k count bs) ≡ count
 numbers-length k zero bs = refl
 numbers-length k (suc count) bs = ap suc (numbers-length k count (drop k bs))
-
--- a store right behind a front that stands over a list
-front-more : (front list : List ℕ) (v n : ℕ) → length front ≡ n → n < length list → set (front ++ drop n list) n v ≡ front ++ v ∷ [] ++ drop (n + 1) list
-front-more front list v n e h =
-    rw (one-at list n h, set-at front (getD list n 0) (drop (n + 1) list) v n e) (sym (append-assoc front (v ∷ []) (drop (n + 1) list)))
 
 -- one number more at the front of a slice, read from its place
 pub read-more : (k count at : ℕ) (bs out list : List ℕ) (v : ℕ) → count < length out → list ≡ numbersOf k count (drop at bs) ++ drop count out

@@ -7,10 +7,11 @@ use lib.ListN.{length, getD, take, drop, set}
 use lib.Seq.{sets-eq, getD-take}
 use lib.Dec.{lit<}
 use Rattle.table.specs.Verdict.{Verdict}
+use Rattle.table.proofs.FrontLaws.{one-at}
 use Rattle.image.specs.Bytes.{valueOf, bytesOf, over}
 use Rattle.image.specs.Image.{mark, headerOf, versionOf, verticesOf, edgesOf}
 use Rattle.image.specs.Contracts.{headerDemands, HeaderJudged}
-use Rattle.image.proofs.ByteLaws.{one-at, over-over, over-length}
+use Rattle.image.proofs.ByteLaws.{over-over, over-length}
 
 -- five stores and n make the header up to m
 nine-bytes : (list first : List ℕ) (n : ℕ) → 13 ≤ length list → first ≡ over (set (set (set (set (set list 0 83) 1 66) 2 84) 3 1) 4 0) 5 (bytesOf 4 n)

@@ -1,4 +1,5 @@
 pub mod Accepted
+pub mod FrontLaws
 pub mod RowLaws
 pub mod SumLaws
 pub mod VerdictLaws

@@ -1,12 +1,13 @@
 -- Laws of rows: where starts fit, each vertex's row lies within the targets. Assumes nothing.
-use Prim.Native.Nat.{ℕ, zero, suc, _+_, _-_, _≤_, _<_}
+use Prim.Native.Nat.{ℕ, zero, suc, _+_, _-_, _≤_, _<_, min}
 use mathlib.Core.Path.{_≡_}
 use mathlib.Core.List.{List}
 use native.Mathlib.Nat.{le-refl, le-trans}
 use native.Mathlib.Numerals.{add-one}
 use native.Mathlib.Omega.{arith}
-use lib.ListN.{length, getD}
-use Rattle.table.specs.Table.{vertices, row, RowLies, StartsFit}
+use lib.ListN.{length, getD, drop, length-take, length-drop}
+use lib.Seq.{getD-take, getD-drop}
+use Rattle.table.specs.Table.{vertices, row, RowLies, Edge, Below, StartsFit}
 
 -- starts that never fall rise from v over any number of steps
 climb : (starts : List ℕ) (m : ℕ) → StartsFit starts m → (v steps : ℕ) → v + steps < length starts → getD starts v 0 ≤ getD starts (v + steps) 0
@@ -29,3 +30,15 @@ row-lies starts targets fit v h =
       ordered = fit .climbs v (omega arith);
       within = start-most starts (length targets) fit (v + 1) (omega arith);
     }
+
+-- where each target is a vertex, so is each target of a row
+pub row-below : (starts targets : List ℕ) → Below (vertices starts) targets → (u : ℕ) → Below (vertices starts) (row starts targets u)
+row-below starts targets below u k h =
+    let from = getD starts u 0 in
+    let count = getD starts (u + 1) 0 - from in
+    let size : k < min count (length targets - from) = rw (length-take count (drop from targets), length-drop from targets) at h in
+    rw (getD-take count (drop from targets) k 0 (omega arith), getD-drop from targets k 0) (below (from + k) (omega arith))
+
+-- and an edge leads to a vertex
+pub edge-below : (starts targets : List ℕ) → Below (vertices starts) targets → (u v : ℕ) → Edge starts targets u v → v < vertices starts
+edge-below starts targets below u v e = rw (e .listed .stands) at (row-below starts targets below u (e .listed .place) (e .listed .inside))
