@@ -13,7 +13,7 @@ use Rattle.rule.specs.Lists.{Graph, Counts, Listing}
 use Rattle.rule.specs.Fold.{Rule, Item, Entrance, Fits, Applied, Folded}
 use Rattle.rule.specs.Laws.{RuleLaws, CandidateLaws}
 use Rattle.rule.proofs.Together.{entrances}
-use Rattle.rule.proofs.Listings.{listing-unique, listing-same}
+use Rattle.rule.proofs.Listings.{listing-unique, listing-same, place-of}
 
 -- the same edges and the same counts
 pub record Same (E E′ : Graph) (c c′ : Counts) : Type 0 where
@@ -29,10 +29,6 @@ map-injective {A} f (x ∷ l) (y ∷ k) h q =
     let p : f x ≡ f y = cc in
     let r : map f l ≡ map f k = cc in
     ap₂ {C = List A} (λ a b. a ∷ b) (h x y (List·Memᴰ·head refl) (List·Memᴰ·head refl) p) (map-injective f l k (λ a b i j. h a b (List·Memᴰ·tail i) (List·Memᴰ·tail j)) r)
-
-place-of : {v : ℕ} {l : List ℕ} → List·Memᴰ v l → (j : ℕ) × (j < length l) × (getD l j 0 ≡ v)
-place-of (List·Memᴰ·head q) = (0, omega arith, sym q)
-place-of (List·Memᴰ·tail m) = let (j, h, q) = place-of m in (suc j, omega arith, q)
 
 -- v is on an arm, or dropped, or neither
 data Where (v : ℕ) (items : List Item) : Type 0 where

@@ -29,3 +29,4 @@ pub mod Candidates
 pub mod Outermost
 pub mod Demand
 pub mod ByNext
+pub mod Tables

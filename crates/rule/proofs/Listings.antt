@@ -14,7 +14,7 @@ pub rising-distinct : {l : List ℕ} → Rising l → Distinct l
 rising-distinct empty = empty
 rising-distinct (first {v = v} h r) = fresh (λ m. lt-irrefl v (h v m)) (rising-distinct r)
 
-rising-unique : {l k : List ℕ} → Rising l → Rising k → ((v : ℕ) → List·Memᴰ v l → List·Memᴰ v k) → ((v : ℕ) → List·Memᴰ v k → List·Memᴰ v l) → l ≡ k
+pub rising-unique : {l k : List ℕ} → Rising l → Rising k → ((v : ℕ) → List·Memᴰ v l → List·Memᴰ v k) → ((v : ℕ) → List·Memᴰ v k → List·Memᴰ v l) → l ≡ k
 rising-unique empty empty f g = refl
 rising-unique empty (first {v = v} h r) f g = absurd (List·Memᴰ·not-nil (g v (List·Memᴰ·head refl)))
 rising-unique (first {v = v} h r) empty f g = absurd (List·Memᴰ·not-nil (f v (List·Memᴰ·head refl)))
@@ -70,6 +70,10 @@ pub getD-in : (l : List ℕ) (j : ℕ) → j < length l → List·Memᴰ (getD l
 getD-in [] j h = absurd (omega arith)
 getD-in (x ∷ l) zero h = List·Memᴰ·head refl
 getD-in (x ∷ l) (suc j) h = List·Memᴰ·tail (getD-in l j (omega arith))
+
+pub place-of : {v : ℕ} {l : List ℕ} → List·Memᴰ v l → (j : ℕ) × (j < length l) × (getD l j 0 ≡ v)
+place-of (List·Memᴰ·head q) = (0, omega arith, sym q)
+place-of (List·Memᴰ·tail m) = let (j, h, q) = place-of m in (suc j, omega arith, q)
 
 pub sum-same : {c d : Counts} (l : List ℕ) → ((v : ℕ) → List·Memᴰ v l → c v ≡ d v) → sum c l ≡ sum d l
 sum-same [] h = refl

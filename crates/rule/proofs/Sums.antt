@@ -23,7 +23,7 @@ pub total-same : {c d : Counts} (n : ℕ) → ((v : ℕ) → v < n → c v ≡ d
 total-same zero h = refl
 total-same (suc n) h = ap₂ _+_ (h n (omega arith)) (total-same n (λ v k. h v (omega arith)))
 
-total-first : (p : Counts) (n : ℕ) → total p (suc n) ≡ p 0 + total (λ j. p (suc j)) n
+pub total-first : (p : Counts) (n : ℕ) → total p (suc n) ≡ p 0 + total (λ j. p (suc j)) n
 total-first p zero = refl
 total-first p (suc n) = omega (arith, total-first p n)
 

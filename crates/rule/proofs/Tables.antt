@@ -1,0 +1,83 @@
+-- Tables and graphs: well-formed tables with as many vertices, the same edges and the same counts are the same, and the sum of the counts is the total over all vertices.
+-- Assumes nothing.
+use Prim.Native.Nat.{ℕ, zero, suc, _+_, _-_, _≤_, _<_}
+use mathlib.Core.Path.{_≡_, refl, sym, _∙_, ap, ap₂}
+use mathlib.Core.Logic.{_↔_, ⊎-elim}
+use mathlib.Core.List.{List, [], _∷_, _++_, List·Memᴰ, List·Memᴰ·not-nil, List·Memᴰ·cases-cons, Memᴰ·cast}
+use native.Mathlib.Numerals.{add-one}
+use native.Mathlib.Omega.{arith}
+use lib.ListN.{length, take, drop, getD, length-take, length-drop}
+use lib.Seq.{take-add, take-length, ext-getD}
+use Rattle.table.specs.Table.{vertices, row, In, Edge, Rises, WellFormed, countSum}
+use Rattle.table.proofs.RowLaws.{row-lies}
+use Rattle.rule.specs.Lists.{Rising, Rising.empty, Rising.first, total}
+use Rattle.rule.proofs.Listings.{rising-unique, getD-in, place-of}
+use Rattle.rule.proofs.Sums.{total-first}
+use Rattle.rule.proofs.Coincide.{Same}
+
+rises-tail : (x : ℕ) (l : List ℕ) → Rises (x ∷ l) → Rises l
+rises-tail x l h k b = rw add-one (rw add-one at (h (suc k) (omega arith)))
+
+first-smallest : {w : ℕ} (x : ℕ) (l : List ℕ) → Rises (x ∷ l) → List·Memᴰ w l → x < w
+first-smallest x [] h m = absurd (List·Memᴰ·not-nil m)
+first-smallest {w} x (y ∷ l) h m =
+    let b : x < y = h 0 (omega arith) in
+    ⊎-elim (λ q. rw q b) (λ k. omega (arith, first-smallest y l (rises-tail x (y ∷ l) h) k)) (List·Memᴰ·cases-cons m)
+
+rising-row : (l : List ℕ) → Rises l → Rising l
+rising-row [] h = empty
+rising-row (x ∷ l) h = first (λ w. first-smallest x l h) (rising-row l (rises-tail x l h))
+
+in-list : {v : ℕ} {l : List ℕ} → In v l ↔ List·Memᴰ v l
+in-list {v} {l} = (λ i. Memᴰ·cast (sym (i .stands)) (getD-in l (i .place) (i .inside)), λ m. let (j, h, q) = place-of m in record { place = j; inside = h; stands = q })
+
+module _ {starts targets : List ℕ} (w : WellFormed starts targets) (v : ℕ) (h : v < vertices starts) where
+  next-start : getD starts (v + 1) 0 ≡ getD starts v 0 + length (row starts targets v)
+  next-start = let l = row-lies starts targets (w .starts-fit) v h in simp (length-take, length-drop) (omega (arith, l .ordered, l .within))
+
+  targets-to-next : take (getD starts (v + 1) 0) targets ≡ take (getD starts v 0) targets ++ row starts targets v
+  targets-to-next =
+      let l = row-lies starts targets (w .starts-fit) v h in
+      let q : getD starts (v + 1) 0 ≡ getD starts v 0 + (getD starts (v + 1) 0 - getD starts v 0) = omega (arith, l .ordered) in
+      ap (λ (n : ℕ). take n targets) q ∙ take-add (getD starts v 0) (getD starts (v + 1) 0 - getD starts v 0) targets
+
+module _ {starts targets starts′ targets′ : List ℕ} (w : WellFormed starts targets) (w′ : WellFormed starts′ targets′) (n : length starts ≡ length starts′) (same : (u v : ℕ) → Edge starts targets u v ↔ Edge starts′ targets′ u v) where
+  row-same : (v : ℕ) → v < vertices starts → row starts targets v ≡ row starts′ targets′ v
+  row-same v h =
+      let h′ : v < vertices starts′ = omega arith in
+      rising-unique (rising-row (row starts targets v) (w .rows-rise v h)) (rising-row (row starts′ targets′ v) (w′ .rows-rise v h′))
+      (λ x m. in-list .0 (same v x .0 (record { vertex = h; listed = in-list .1 m }) .listed)) (λ x m. in-list .0 (same v x .1 (record { vertex = h′; listed = in-list .1 m }) .listed))
+
+  -- the start of v, and the targets before it
+  before : (v : ℕ) → v < length starts → (getD starts v 0 ≡ getD starts′ v 0) × (take (getD starts v 0) targets ≡ take (getD starts′ v 0) targets′)
+  before zero h = let q = w .starts-fit .begins in let q′ = w′ .starts-fit .begins in (q ∙ sym q′, rw (q, q′))
+  before (suc v) h =
+      let (q, r) = before v (omega arith) in
+      let k : v < vertices starts = omega arith in
+      let k′ : v < vertices starts′ = omega arith in
+      let one : getD starts (v + 1) 0 ≡ getD starts′ (v + 1) 0 = next-start w v k ∙ ap₂ _+_ q (ap length (row-same v k)) ∙ sym (next-start w′ v k′) in
+      let two : take (getD starts (v + 1) 0) targets ≡ take (getD starts′ (v + 1) 0) targets′ = targets-to-next w v k ∙ ap₂ _++_ r (row-same v k) ∙ sym (targets-to-next w′ v k′) in
+      (rw add-one at one, rw add-one at two)
+
+  pub same-table : (starts ≡ starts′) × (targets ≡ targets′)
+  same-table =
+      let some : 0 < length starts = w .some in
+      let (q, r) = before (vertices starts) (omega arith) in
+      let e : getD starts (vertices starts) 0 ≡ length targets = w .starts-fit .ends in
+      let e′ : getD starts′ (vertices starts) 0 ≡ length targets′ = ap (λ (x : ℕ). getD starts′ (x - 1) 0) n ∙ w′ .starts-fit .ends in
+      let all : take (length targets) targets ≡ take (length targets′) targets′ = rw (e, e′) at r in
+      (ext-getD 0 starts starts′ n (λ v h. before v h .0), sym (take-length targets) ∙ all ∙ take-length targets′)
+
+-- the count of each vertex
+abbrev pub count-of : List ℕ → ℕ → ℕ
+count-of counts v = getD counts v 0
+
+pub same-lists : {starts targets counts starts′ targets′ counts′ : List ℕ} → WellFormed starts targets → WellFormed starts′ targets′ → length starts ≡ length starts′ → length counts ≡ length counts′
+    → Same (Edge starts targets) (Edge starts′ targets′) (count-of counts) (count-of counts′) → (starts ≡ starts′) × (targets ≡ targets′) × (counts ≡ counts′)
+same-lists {counts = counts} {counts′ = counts′} w w′ n m s =
+    let (q, r) = same-table w w′ n (s .edges) in
+    (q, r, ext-getD 0 counts counts′ m (λ v h. s .counts v))
+
+pub total-of-counts : (counts : List ℕ) → total (count-of counts) (length counts) ≡ countSum counts
+total-of-counts [] = refl
+total-of-counts (x ∷ l) = total-first (count-of (x ∷ l)) (length l) ∙ ap (λ (k : ℕ). x + k) (total-of-counts l)
