@@ -29,4 +29,5 @@ pub mod Candidates
 pub mod Outermost
 pub mod Demand
 pub mod ByNext
-pub mod Tables
+pub mod SameTable
+pub mod TableDemand

@@ -2,10 +2,11 @@
 -- Assumes nothing.
 use Prim.Native.Nat.{ℕ, zero, suc, _+_, _<_}
 use mathlib.Core.Path.{_≡_, refl, sym, ap, ap₂}
-use mathlib.Core.Logic.{_↔_, ⊎-elim}
-use mathlib.Core.List.{List, [], _∷_, _++_, List·Memᴰ, List·Memᴰ·head, List·Memᴰ·tail, List·Memᴰ·not-nil, List·Memᴰ·cases-cons, List·Memᴰ·append-cases, Memᴰ·append-left, Memᴰ·append-right, Memᴰ·cast}
+use mathlib.Core.Logic.{_≢_, _↔_, ⊎-elim}
+use mathlib.Core.List.{List, [], _∷_, _++_, List·Memᴰ, List·Memᴰ·head, List·Memᴰ·tail, List·Memᴰ·not-nil, List·Memᴰ·cases-cons, List·Memᴰ·eq-of-singleton, List·Memᴰ·append-cases, Memᴰ·append-left, Memᴰ·append-right, Memᴰ·cast}
 use native.Mathlib.Nat.{lt-irrefl}
 use native.Mathlib.Omega.{arith}
+use native.Mathlib.Decide.{ℕ-discrete}
 use lib.ListN.{length, take, drop, getD, take-append-drop}
 use Rattle.bubble.proofs.Pigeonhole.{Distinct, Distinct.empty, Distinct.fresh}
 use Rattle.rule.specs.Lists.{Counts, Rising, Rising.empty, Rising.first, Listing, sum}
@@ -34,6 +35,32 @@ listing-unique a b = rising-unique (a .rising) (b .rising) (λ v m. b .holds v .
 
 pub listing-same : {P Q : ℕ → Type 0} {l : List ℕ} → ((v : ℕ) → P v ↔ Q v) → Listing P l → Listing Q l
 listing-same h a = record { rising = a .rising; holds = λ v. (λ m. h v .0 (a .holds v .0 m), λ q. a .holds v .1 (h v .1 q)) }
+
+rising-last : {v : ℕ} {l : List ℕ} → Rising l → ((w : ℕ) → List·Memᴰ w l → w < v) → Rising (l ++ (v ∷ []))
+rising-last empty h = first (λ w m. absurd (List·Memᴰ·not-nil m)) empty
+rising-last {v} (first {v = x} {l = l} g r) h = first (λ w m. ⊎-elim (g w) (λ i. let q : w ≡ v = List·Memᴰ·eq-of-singleton i in rw q (h x (List·Memᴰ·head refl))) (List·Memᴰ·append-cases l m)) (rising-last r (λ w m. h w (List·Memᴰ·tail m)))
+
+-- a listing of what lies below k grows by k, or stays as it is
+listing-grows : {P : ℕ → Type 0} {k : ℕ} {l : List ℕ} → P k → Listing (λ v. (v < k) × P v) l → Listing (λ v. (v < suc k) × P v) (l ++ (k ∷ []))
+listing-grows {P} {k} {l} p a = record { rising = rising-last (a .rising) (λ w m. a .holds w .0 m .0); holds = λ v. (to v, back v) }
+  where
+    to : (v : ℕ) → List·Memᴰ v (l ++ (k ∷ [])) → (v < suc k) × P v
+    to v m =
+        ⊎-elim (λ i. let (h, r) = a .holds v .0 i in (omega arith, r)) (λ i. let q : v ≡ k = List·Memᴰ·eq-of-singleton i in (omega arith, rw q p)) (List·Memᴰ·append-cases l m)
+
+    back : (v : ℕ) → (v < suc k) × P v → List·Memᴰ v (l ++ (k ∷ []))
+    back v h = elim (ℕ-discrete v k) [ yes q ↦ Memᴰ·append-right l (List·Memᴰ·head q) | no n ↦ Memᴰ·append-left (k ∷ []) (a .holds v .1 (omega (arith, h .0), h .1)) ]
+
+listing-stays : {P : ℕ → Type 0} {k : ℕ} {l : List ℕ} → (P k → ⊥) → Listing (λ v. (v < k) × P v) l → Listing (λ v. (v < suc k) × P v) l
+listing-stays {P} {k} {l} n a = listing-same (λ v. (λ h. (omega (arith, h .0), h .1), λ h. let m : v ≢ k = λ q. n (rw q at (h .1)) in (omega (arith, h .0), h .1))) a
+
+listing-below : {P : ℕ → Type 0} (k : ℕ) → ((v : ℕ) → Dec (P v)) → (l : List ℕ) × Listing (λ v. (v < k) × P v) l
+listing-below zero d = ([], record { rising = empty; holds = λ v. (λ m. absurd (List·Memᴰ·not-nil m), λ h. absurd (omega (arith, h .0))) })
+listing-below {P} (suc k) d = let (l, a) = listing-below {P = P} k d in elim (d k) [ yes p ↦ (l ++ (k ∷ []), listing-grows p a) | no n ↦ (l, listing-stays n a) ]
+
+-- what is decided and lies below n has a listing
+pub listing-exists : {P : ℕ → Type 0} (n : ℕ) → ((v : ℕ) → Dec (P v)) → ((v : ℕ) → P v → v < n) → (l : List ℕ) × Listing P l
+listing-exists n d h = let (l, a) = listing-below n d in (l, listing-same (λ v. (λ p. p .1, λ p. (h v p, p))) a)
 
 -- the front of a rising list rises
 rising-front : (l k : List ℕ) → Rising (l ++ k) → Rising l

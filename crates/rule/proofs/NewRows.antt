@@ -1,4 +1,4 @@
--- The new row of each vertex: whole where no folded superbubble holds the vertex but at its exit, empty where it is dropped, and else the one next vertex of the kept path.
+-- The edges that stay, row by row: all of the row where no folded superbubble holds the vertex but at its exit, none where it is dropped, and else the one to the next vertex of the kept path.
 -- Assumes nothing.
 use Prim.Native.Nat.{ℕ}
 use mathlib.Core.Path.{_≡_, sym, _∙_, subst}
@@ -8,75 +8,71 @@ use native.Mathlib.Decide.{ℕ-discrete}
 use Rattle.bubble.specs.Superbubble.{F, F.on, Interior, Bubbloid}
 use Rattle.bubble.proofs.Facts.{closed-backward, no-edge-from-exit}
 use Rattle.rule.specs.Lists.{Graph, Counts, Follows}
-use Rattle.rule.specs.Fold.{Rule, Item, Applied, Stays}
+use Rattle.rule.specs.Fold.{Rule, Item, Fits}
 use Rattle.rule.specs.Laws.{RuleLaws, CandidateLaws}
 use Rattle.rule.proofs.Thread.{Thread}
 use Rattle.rule.proofs.Following.{follows-tail, follows-head}
 use Rattle.rule.proofs.Arms.{arm-thread}
-use Rattle.rule.proofs.Remaining.{item-arm}
+use Rattle.rule.proofs.Together.{First, first-folded, Staying}
 use Rattle.rule.proofs.Coincide.{item-unique}
 
-module _ {G : Graph → Type 0} {C : Graph → ℕ → ℕ → Type 0} {R : Rule} (L : CandidateLaws G C) (M : RuleLaws R) {E E′ : Graph} {c c′ : Counts} {b : ℕ} (g : G E) (a : Applied C R E c b E′ c′) where
-  module _ (i : Item) (m : List·Memᴰ i (a .items)) where
+-- v is the next vertex after u from the entrance along the arm to the exit
+abbrev pub Next : Item → Graph
+Next i = Follows (i .entrance ∷ i .arm ++ (i .exit ∷ []))
+
+module _ {G : Graph → Type 0} {C : Graph → ℕ → ℕ → Type 0} {R : Rule} (L : CandidateLaws G C) (M : RuleLaws R) {E : Graph} {c : Counts} (g : G E) {items : List Item} (fit : (i : Item) → List·Memᴰ i items → Fits C R E c i) where
+  module _ (i : Item) (m : List·Memᴰ i items) where
     bubbloid : Bubbloid E (i .entrance) (i .exit)
-    bubbloid = L .superbubble (a .fit i m .candidate) .bubbloid
+    bubbloid = L .superbubble (fit i m .candidate) .bubbloid
 
-    abbrev Next : Graph
-    Next = Follows (i .entrance ∷ i .arm ++ (i .exit ∷ []))
-
-    thread : Thread E (λ u v. E u v × Stays E (i .entrance) (i .exit) (i .arm) u v) (i .entrance) (i .exit) Next
-    thread = arm-thread (L .superbubble (a .fit i m .candidate)) (L .passed-once g (a .fit i m .candidate)) (item-arm L M g a i m) (λ u v. (λ e. e, λ e. e))
+    thread : Thread E (First E i) (i .entrance) (i .exit) (Next i)
+    thread =
+        let p = L .superbubble (fit i m .candidate) in
+        arm-thread p (L .passed-once g (fit i m .candidate)) (M .path p (fit i m .kept)) (first-folded E i)
 
     -- a dropped vertex is not on the kept path
     off-path : {v : ℕ} → List·Memᴰ v (i .dropped) → List·Memᴰ v (i .entrance ∷ i .arm ++ (i .exit ∷ [])) → ⊥
     off-path {v} d k =
-        let (inner, off) = a .fit i m .rest .holds v .0 d in
+        let (inner, off) = fit i m .rest .holds v .0 d in
         ⊎-elim (inner .not-entrance) (λ l. ⊎-elim off (λ j. inner .not-exit (List·Memᴰ·eq-of-singleton j)) (List·Memᴰ·append-cases (i .arm) l)) (List·Memᴰ·cases-cons k)
 
-    -- so it has no edge
-    pub row-empty : (u v : ℕ) → List·Memᴰ u (i .dropped) → E′ u v → ⊥
-    row-empty u v d e =
-        let inner = a .fit i m .rest .holds u .0 d .0 in
-        let (k, stays) = a .edges u v .0 e in
-        off-path d (follows-tail (stays i m (inner .inside) (on (inner .inside) (inner .not-exit) k)))
+    -- so no edge of it stays
+    pub row-empty : (u v : ℕ) → List·Memᴰ u (i .dropped) → Staying E items u v → ⊥
+    row-empty u v d e = let inner = fit i m .rest .holds u .0 d .0 in off-path d (follows-tail (e .1 i m (inner .inside) (on (inner .inside) (inner .not-exit) (e .0))))
 
-    pub column-empty : (u v : ℕ) → List·Memᴰ v (i .dropped) → E′ u v → ⊥
+    pub column-empty : (u v : ℕ) → List·Memᴰ v (i .dropped) → Staying E items u v → ⊥
     column-empty u v d e =
-        let inner = a .fit i m .rest .holds v .0 d .0 in
-        let (k, stays) = a .edges u v .0 e in
-        off-path d (List·Memᴰ·tail (follows-head (stays i m (closed-backward bubbloid (inner .inside) (inner .not-entrance) k) (inner .inside))))
+        let inner = fit i m .rest .holds v .0 d .0 in
+        off-path d (List·Memᴰ·tail (follows-head (e .1 i m (closed-backward bubbloid (inner .inside) (inner .not-entrance) (e .0)) (inner .inside))))
 
-    not-exit : {u w : ℕ} → Next u w → u ≢ i .exit
+    not-exit : {u w : ℕ} → Next i u w → u ≢ i .exit
     not-exit f r = no-edge-from-exit bubbloid (thread .head-inside f) (rw r at (thread .joined f))
 
-    -- a vertex of the kept path is in no other folded superbubble but at its exit
-    same-item : {u w : ℕ} → Next u w → (j : Item) → List·Memᴰ j (a .items) → F E (j .entrance) (j .exit) u → F E (j .entrance) (j .exit) w → i ≡ j
+    -- an edge of the kept path has both its ends in no other folded superbubble
+    same-item : {u w : ℕ} → Next i u w → (j : Item) → List·Memᴰ j items → F E (j .entrance) (j .exit) u → F E (j .entrance) (j .exit) w → i ≡ j
     same-item {u} {w} f j n h k =
         elim (ℕ-discrete (i .entrance) (j .entrance)) [
-          | yes q ↦ item-unique L M (a .fit i m) (a .fit j n) q
+          | yes q ↦ item-unique L M (fit i m) (fit j n) q
           | no l ↦
               elim (ℕ-discrete u (i .entrance)) [
-                | no z ↦ absurd (L .apart g (a .fit i m .candidate) (a .fit j n .candidate) l (record { inside = thread .tail-inside f; not-entrance = z; not-exit = not-exit f }) h)
+                | no z ↦ absurd (L .apart g (fit i m .candidate) (fit j n .candidate) l (record { inside = thread .tail-inside f; not-entrance = z; not-exit = not-exit f }) h)
                 | yes z ↦
                     let other : Interior E (j .entrance) (j .exit) u = record {
                       inside = h;
                       not-entrance = λ r. l (sym z ∙ r);
-                      not-exit = λ r. no-edge-from-exit (L .superbubble (a .fit j n .candidate) .bubbloid) k (rw r at (thread .joined f));
+                      not-exit = λ r. no-edge-from-exit (L .superbubble (fit j n .candidate) .bubbloid) k (rw r at (thread .joined f));
                     } in
-                    absurd (L .apart g (a .fit j n .candidate) (a .fit i m .candidate) (λ r. l (sym r)) other (thread .tail-inside f))
+                    absurd (L .apart g (fit j n .candidate) (fit i m .candidate) (λ r. l (sym r)) other (thread .tail-inside f))
               ]
         ]
 
-    -- the next vertex of the kept path is the only one in the new row
-    pub row-next : (u w : ℕ) → Next u w → (v : ℕ) → E′ u v ↔ (v ≡ w)
-    row-next u w f v = (to, λ q. rw q (a .edges u w .1 (thread .joined f, λ j n h k. subst (λ (x : Item). Follows (x .entrance ∷ x .arm ++ (x .exit ∷ [])) u w) (same-item f j n h k) f)))
+    -- from a vertex of the kept path only the edge to the next stays
+    pub row-next : (u w : ℕ) → Next i u w → (v : ℕ) → Staying E items u v ↔ (v ≡ w)
+    row-next u w f v = (to, λ q. rw q (thread .joined f, λ j n h k. subst (λ (x : Item). Next x u w) (same-item f j n h k) f))
       where
-        to : E′ u v → v ≡ w
-        to e =
-            let (k, stays) = a .edges u v .0 e in
-            let h = thread .tail-inside f in
-            thread .one-after (stays i m h (on h (not-exit f) k)) f
+        to : Staying E items u v → v ≡ w
+        to e = let h = thread .tail-inside f in thread .one-after (e .1 i m h (on h (not-exit f) (e .0))) f
 
-  -- where no folded superbubble holds u but at its exit
-  pub row-whole : (u : ℕ) → ((i : Item) → List·Memᴰ i (a .items) → F E (i .entrance) (i .exit) u → u ≡ i .exit) → (v : ℕ) → E′ u v ↔ E u v
-  row-whole u h v = (λ e. a .edges u v .0 e .0, λ e. a .edges u v .1 (e, λ i m f k. absurd (no-edge-from-exit (bubbloid i m) k (rw (h i m f) at e))))
+  -- where no folded superbubble holds u but at its exit, every edge stays
+  pub row-whole : (u : ℕ) → ((i : Item) → List·Memᴰ i items → F E (i .entrance) (i .exit) u → u ≡ i .exit) → (v : ℕ) → Staying E items u v ↔ E u v
+  row-whole u h v = (λ e. e .0, λ e. (e, λ i m f k. absurd (no-edge-from-exit (bubbloid i m) k (rw (h i m f) at e))))

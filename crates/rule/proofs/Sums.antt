@@ -2,7 +2,7 @@
 -- Assumes nothing.
 use Prim.Native.Nat.{ℕ, zero, suc, _+_, _<_}
 use mathlib.Core.Path.{_≡_, refl, sym, _∙_, ap, ap₂}
-use mathlib.Core.Logic.{_≢_, ⊎-elim, ite, if-pos, if-neg}
+use mathlib.Core.Logic.{_≢_, _↔_, ⊎-elim, ite, if-pos, if-neg}
 use mathlib.Core.List.{List, [], _∷_, _++_, List·Memᴰ, List·Memᴰ·head, List·Memᴰ·tail, List·Memᴰ·not-nil, List·Memᴰ·cases-cons}
 use native.Mathlib.Omega.{arith}
 use native.Mathlib.Decide.{ℕ-discrete}
@@ -68,6 +68,12 @@ total-off c n (fresh {a = a} {l = l} m d) h =
     let one : total (off c l) n ≡ off c l a + total (off c (a ∷ l)) n =
     total-one n (h a (List·Memᴰ·head refl)) (off-listed c (List·Memᴰ·head refl)) (λ v k. off-same c (a ∷ l) l v (λ i. ⊎-elim (λ q. absurd (k q)) (λ j. j) (List·Memᴰ·cases-cons i)) List·Memᴰ·tail) in
     omega (arith, one, off-other c m, total-off c n d (λ v i. h v (List·Memᴰ·tail i)))
+
+-- different vertices in another order have the same sum
+pub sum-reordered : (c : Counts) {l k : List ℕ} (n : ℕ) → Distinct l → Distinct k → ((v : ℕ) → List·Memᴰ v l → v < n) → ((v : ℕ) → List·Memᴰ v l ↔ List·Memᴰ v k) → sum c l ≡ sum c k
+sum-reordered c {l} {k} n d e h q =
+    let rest : total (off c l) n ≡ total (off c k) n = total-same n (λ v b. off-same c l k v (q v .0) (q v .1)) in
+    omega (arith, total-off c n d h, total-off c n e (λ v m. h v (q v .1 m)), rest)
 
 pub total-moved : {c d : Counts} {l : List ℕ} (n : ℕ) → Distinct l → ((v : ℕ) → List·Memᴰ v l → v < n) → ((v : ℕ) → (List·Memᴰ v l → ⊥) → d v ≡ c v) → sum d l ≡ sum c l → total d n ≡ total c n
 total-moved {c} {d} {l} n e h k q =

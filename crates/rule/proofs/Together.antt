@@ -27,10 +27,10 @@ abbrev pub entrances : List Item → List ℕ
 entrances items = map (λ (i : Item). i .entrance) items
 
 -- the graph with one item folded
-abbrev First : Graph → Item → Graph
+abbrev pub First : Graph → Item → Graph
 First E i u v = E u v × Stays E (i .entrance) (i .exit) (i .arm) u v
 
-first-folded : (E : Graph) (i : Item) → OneFolded E (i .entrance) (i .exit) (i .arm) (First E i)
+pub first-folded : (E : Graph) (i : Item) → OneFolded E (i .entrance) (i .exit) (i .arm) (First E i)
 first-folded E i u v = (λ e. e, λ e. e)
 
 module _ (C : Graph → ℕ → ℕ → Type 0) where

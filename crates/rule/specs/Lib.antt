@@ -2,3 +2,4 @@ pub mod Lists
 pub mod Kept
 pub mod Fold
 pub mod Laws
+pub mod Tables

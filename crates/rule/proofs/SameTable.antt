@@ -11,6 +11,7 @@ use lib.Seq.{take-add, take-length, ext-getD}
 use Rattle.table.specs.Table.{vertices, row, In, Edge, Rises, WellFormed, countSum}
 use Rattle.table.proofs.RowLaws.{row-lies}
 use Rattle.rule.specs.Lists.{Rising, Rising.empty, Rising.first, total}
+use Rattle.rule.specs.Tables.{count-of}
 use Rattle.rule.proofs.Listings.{rising-unique, getD-in, place-of}
 use Rattle.rule.proofs.Sums.{total-first}
 use Rattle.rule.proofs.Coincide.{Same}
@@ -67,10 +68,6 @@ module _ {starts targets starts′ targets′ : List ℕ} (w : WellFormed starts
       let e′ : getD starts′ (vertices starts) 0 ≡ length targets′ = ap (λ (x : ℕ). getD starts′ (x - 1) 0) n ∙ w′ .starts-fit .ends in
       let all : take (length targets) targets ≡ take (length targets′) targets′ = rw (e, e′) at r in
       (ext-getD 0 starts starts′ n (λ v h. before v h .0), sym (take-length targets) ∙ all ∙ take-length targets′)
-
--- the count of each vertex
-abbrev pub count-of : List ℕ → ℕ → ℕ
-count-of counts v = getD counts v 0
 
 pub same-lists : {starts targets counts starts′ targets′ counts′ : List ℕ} → WellFormed starts targets → WellFormed starts′ targets′ → length starts ≡ length starts′ → length counts ≡ length counts′
     → Same (Edge starts targets) (Edge starts′ targets′) (count-of counts) (count-of counts′) → (starts ≡ starts′) × (targets ≡ targets′) × (counts ≡ counts′)
