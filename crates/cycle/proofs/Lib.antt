@@ -1,0 +1,4 @@
+pub mod SafeLaws
+pub mod EdgeLaws
+pub mod CountLaws
+pub mod VisitLaws
