@@ -1,14 +1,15 @@
 -- `search::rows::ready` meets its contract. Assumes nothing.
 use mathlib.Core.Path.{sym}
+use native.Mathlib.Omega.{arith}
 use Rattle.search.proofs.WaitLaws.{ready-yes, ready-no}
 use Rattle.search.proofs.rows.ready.Statement.{statement}
 use Rattle.search.proofs.rows.ready.Tie as tie
 
 returns : tie.Need-returns
-returns c = sym (ready-yes (c .before .args .left) (c .if1 .taken))
+returns c = sym (ready-yes (c .before .args .left) (omega arith))
 
 returns-2 : tie.Need-returns-2
-returns-2 c = sym (ready-no (c .before .args .left) (c .if1 .left))
+returns-2 c = sym (ready-no (c .before .args .left) (omega arith))
 
 pub ready-spec : {M : Type 1} → statement M
 ready-spec = tie.close (tie.spec returns returns-2)

@@ -10,10 +10,10 @@ add-if2 : tie.Need-add-if2
 add-if2 c = omega arith
 
 returns-2 : tie.Need-returns-2
-returns-2 c = λ lone. c .if2 .taken (lone .last)
+returns-2 c = λ lone. omega (arith, lone .last)
 
 returns-3 : tie.Need-returns-3
-returns-3 c = λ lone. c .if3 .taken (lone .nowhere)
+returns-3 c = λ lone. omega (arith, lone .nowhere)
 
 returns-4 : tie.Need-returns-4
 returns-4 c = record { later = omega arith; last = omega arith; nowhere = omega arith }
