@@ -1,11 +1,11 @@
 -- A set of vertices, one bit each, in 32 words of 64 bits, and the number of its members. Assumes nothing.
 use Prim.Native.Nat.{ℕ, _+_, _/_, _%_, _^_, _<_}
 use mathlib.Core.Path.{_≡_}
-use mathlib.Core.Logic.{_↔_}
+use mathlib.Core.Logic.{_↔_, _⊎_}
 use mathlib.Core.List.{List, [], _∷_}
 use lib.ListN.{length, getD}
 use lib.Count.{ones}
-use Rattle.table.specs.Table.{In}
+use Rattle.table.specs.Table.{In, Below}
 
 -- the bit of place k, 0 or 1
 abbrev pub bitAt : ℕ → ℕ → ℕ
@@ -26,3 +26,18 @@ pub record Numbers (P : ℕ → Type 0) (k : ℕ) : Type 0 where
   pub many : length listed ≡ k
   pub apart : (i j : ℕ) → i < k → j < k → getD listed i 0 ≡ getD listed j 0 → i ≡ j
   pub exactly : (v : ℕ) → In v listed ↔ P v
+
+-- 32 words of 64 bits
+pub record Words (words : List ℕ) : Type 0 where
+  pub many : length words ≡ 32
+  pub each : Below (2 ^ 64) words
+
+-- v was added to the set
+pub record Added (words words′ : List ℕ) (v : ℕ) : Type 0 where
+  pub still : Words words′
+  pub members : (x : ℕ) → Member words′ x ↔ (Member words x ⊎ (x ≡ v))
+
+-- r is the number of the set's members, as the sum of each word's count of ones
+pub record Size (words : List ℕ) (r : ℕ) : Type 0 where
+  pub sum : r ≡ onesOf words
+  pub number : Numbers (Member words) r
