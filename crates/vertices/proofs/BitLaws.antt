@@ -1,4 +1,4 @@
--- Laws of a word's bits: they are 0 or 1, those of 2 ^ j, those of two words by `|`, and how many are 1. Assumes nothing.
+-- Laws of a word's bits: place by place, those of 2 ^ j, those of two words by `|`, and how many are 1. Assumes nothing.
 use Prim.Native.Nat.{ℕ, zero, suc, _*_, _/_, _%_, _^_, _≤_, _<_, max}
 use mathlib.Core.Path.{_≡_, refl, sym, ap, _∙_}
 use mathlib.Core.Logic.{_↔_, _⊎_, inl, inr, ⊎-elim}

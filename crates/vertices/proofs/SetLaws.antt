@@ -24,6 +24,7 @@ zeros zero i = refl
 zeros (suc n) zero = refl
 zeros (suc n) (suc i) = zeros n i
 
+-- nothing is in words that are all 0
 pub empty : (n v : ℕ) → Member (replicate n 0) v → ⊥
 empty n v m = let z : bitAt (getD (replicate n 0) (v / 64) 0) (v % 64) ≡ 0 = rw (zeros n (v / 64)) (bit-of-zero (v % 64)) in omega arith
 
@@ -123,6 +124,7 @@ by-word w words v h = elim (decLt v 64) [
       )
 ]
 
+-- each word's ones are its members, and the words' members are different
 pub members-numbered : (words : List ℕ) → Below (2 ^ 64) words → Numbers (Member words) (onesOf words)
 members-numbered [] h =
     numbers-of [] refl Distinct.empty
