@@ -24,16 +24,19 @@ via-edge {E} (bare e) f = ⊎-elim (λ q. rw (q .0) (via-first {E = E} (bare e) 
 via-edge {E} (then e p) f = ⊎-elim (λ q. rw (q .0) (via-first {E = E} (then e p) (q .1))) (via-edge p) (follows-cases f)
 
 -- a path leads from its first vertex to every other
-pub via-walk : {E : Graph} {P : ℕ → Type 0} {t s v : ℕ} {l : List ℕ} → P s → ((w : ℕ) → List·Memᴰ w (l ++ (t ∷ [])) → P w) → Via E t s l → List·Memᴰ v (l ++ (t ∷ [])) → Walk E P s v
+pub via-walk : {E : Graph} {P : ℕ → Type 0} {t s v : ℕ} {l : List ℕ} → P s → ((w : ℕ) → List·Memᴰ w (l ++ (t ∷ [])) → P w) → Via E t s l
+    → List·Memᴰ v (l ++ (t ∷ [])) → Walk E P s v
 via-walk {t = t} p h (bare e) m = let q = List·Memᴰ·eq-of-singleton m in rw q (edge p e (h t (List·Memᴰ·head refl)))
 via-walk p h (then {v = x} e r) m =
     let px = h x (List·Memᴰ·head refl) in
     ⊎-elim (λ q. rw q (edge p e px)) (λ k. walk-before p e (via-walk px (λ w i. h w (List·Memᴰ·tail i)) r k)) (List·Memᴰ·cases-cons m)
 
 -- where there is no cycle the vertices of a path differ
-via-distinct : {E : Graph} {P : ℕ → Type 0} {t s : ℕ} {l : List ℕ} → ((v : ℕ) → Walk E P v v → ⊥) → P s → ((w : ℕ) → List·Memᴰ w (l ++ (t ∷ [])) → P w) → Via E t s l → Distinct (s ∷ l ++ (t ∷ []))
+via-distinct : {E : Graph} {P : ℕ → Type 0} {t s : ℕ} {l : List ℕ} → ((v : ℕ) → Walk E P v v → ⊥) → P s
+    → ((w : ℕ) → List·Memᴰ w (l ++ (t ∷ [])) → P w) → Via E t s l → Distinct (s ∷ l ++ (t ∷ []))
 via-distinct {s = s} a p h (bare e) = fresh (λ m. a s (via-walk p h (bare e) m)) (fresh List·Memᴰ·not-nil empty)
-via-distinct {s = s} a p h (then {v = x} e r) = fresh (λ m. a s (via-walk p h (then e r) m)) (via-distinct a (h x (List·Memᴰ·head refl)) (λ w i. h w (List·Memᴰ·tail i)) r)
+via-distinct {s = s} a p h (then {v = x} e r) =
+    fresh (λ m. a s (via-walk p h (then e r) m)) (via-distinct a (h x (List·Memᴰ·head refl)) (λ w i. h w (List·Memᴰ·tail i)) r)
 
 pub arm-inside : {E : Graph} {s t : ℕ} {l : List ℕ} → F E s t t → Arm E s t l → (v : ℕ) → List·Memᴰ v (l ++ (t ∷ [])) → F E s t v
 arm-inside {t = t} {l = l} f a v m = ⊎-elim (λ i. a .inner v i .inside) (λ i. let q : v ≡ t = List·Memᴰ·eq-of-singleton i in rw q f) (List·Memᴰ·append-cases l m)
@@ -41,7 +44,8 @@ arm-inside {t = t} {l = l} f a v m = ⊎-elim (λ i. a .inner v i .inside) (λ i
 pub arm-distinct : {E : Graph} {s t : ℕ} {l : List ℕ} → Bubbloid E s t → Arm E s t l → Distinct (s ∷ l ++ (t ∷ []))
 arm-distinct b a = via-distinct (b .acyclicity) start (arm-inside (exit-inside b) a) (a .path)
 
-pub arm-thread : {E E′ : Graph} {s t : ℕ} {l : List ℕ} → Superbubble E s t → (E s t → Reaches E t s → ⊥) → Arm E s t l → OneFolded E s t l E′ → Thread E E′ s t (Follows (s ∷ l ++ (t ∷ [])))
+pub arm-thread : {E E′ : Graph} {s t : ℕ} {l : List ℕ} → Superbubble E s t → (E s t → Reaches E t s → ⊥) → Arm E s t l → OneFolded E s t l E′
+    → Thread E E′ s t (Follows (s ∷ l ++ (t ∷ [])))
 arm-thread {E} {E′} {s} {t} {l} p o a h =
     let b = p .bubbloid in
     let d = arm-distinct b a in

@@ -19,7 +19,8 @@ use Rattle.rule.proofs.Through.{arm-through}
 
 module _ {score : Counts → List ℕ → ℕ} (h : ScoreLaws score) where
   -- carried to a graph that looks the same from inside, with the same interior counts
-  best-local : {E E′ : Graph} {c c′ : Counts} {s t : ℕ} {l : List ℕ} → Bubbloid E s t → SameInside E E′ s t → ((v : ℕ) → Interior E s t v → c v ≡ c′ v) → Best score E c s t l → Best score E′ c′ s t l
+  best-local : {E E′ : Graph} {c c′ : Counts} {s t : ℕ} {l : List ℕ} → Bubbloid E s t → SameInside E E′ s t
+      → ((v : ℕ) → Interior E s t v → c v ≡ c′ v) → Best score E c s t l → Best score E′ c′ s t l
   best-local {E} {E′} {c} {c′} {s} {t} {l} b i q p = record { arm = arm-carried (exit-inside b) i (p .arm); unbeaten = unbeaten′ }
     where
       same-score : (k : List ℕ) → Arm E s t k → score c k ≡ score c′ k

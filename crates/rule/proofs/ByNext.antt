@@ -84,10 +84,12 @@ module _ {E : Graph} {c : Counts} {s t : ℕ} {best next : ℕ → ℕ} (b : Bub
   sum-bounded f n (bare e) i = omega arith
   sum-bounded {v} f n (then {v = u} e p) i =
       let inner = i u (List·Memᴰ·head refl) in
-      omega (arith, sum-bounded (inner .inside) (inner .not-exit) p (λ w m. i w (List·Memᴰ·tail m)), worth-other c best (inner .not-exit), settled v f n .largest u e)
+      let rest = sum-bounded (inner .inside) (inner .not-exit) p (λ w m. i w (List·Memᴰ·tail m)) in
+      omega (arith, rest, worth-other c best (inner .not-exit), settled v f n .largest u e)
 
   -- the first step of a path of the best sum is worth it
-  first-worth : {v u : ℕ} {k : List ℕ} → F E s t v → v ≢ t → E v u → Via E t u k → ((w : ℕ) → List·Memᴰ w (u ∷ k) → Interior E s t w) → sum c (u ∷ k) ≡ best v → (worth c t best u ≡ best v) × (sum c k ≡ best u)
+  first-worth : {v u : ℕ} {k : List ℕ} → F E s t v → v ≢ t → E v u → Via E t u k → ((w : ℕ) → List·Memᴰ w (u ∷ k) → Interior E s t w)
+      → sum c (u ∷ k) ≡ best v → (worth c t best u ≡ best v) × (sum c k ≡ best u)
   first-worth {v} {u} {k} f n e p i q =
       let inner = i u (List·Memᴰ·head refl) in
       let bounded : sum c k ≤ best u = sum-bounded (inner .inside) (inner .not-exit) p (λ w m. i w (List·Memᴰ·tail m)) in
@@ -96,15 +98,19 @@ module _ {E : Graph} {c : Counts} {s t : ℕ} {best next : ℕ → ℕ} (b : Bub
       (omega arith, omega arith)
 
   -- no path of the same sum is earlier
-  none-earlier : {v : ℕ} {k l : List ℕ} → F E s t v → v ≢ t → Via E t v k → ((w : ℕ) → List·Memᴰ w k → Interior E s t w) → sum c k ≡ best v → ByNext next t v l → Earlier (k ++ (t ∷ [])) (l ++ (t ∷ [])) → ⊥
+  none-earlier : {v : ℕ} {k l : List ℕ} → F E s t v → v ≢ t → Via E t v k → ((w : ℕ) → List·Memᴰ w k → Interior E s t w) → sum c k ≡ best v
+      → ByNext next t v l → Earlier (k ++ (t ∷ [])) (l ++ (t ∷ [])) → ⊥
   none-earlier f n (bare e) i q (last z) o = ⊎-elim (lt-irrefl t) (λ h. omega (arith, earlier-some (h .1))) (earlier-cases o)
-  none-earlier {v} f n (bare e) i q (step m r) o = ⊎-elim (λ h. omega (arith, settled v f n .smallest t e (worth-exit c best refl ∙ q))) (λ h. m (sym (h .0))) (earlier-cases o)
+  none-earlier {v} f n (bare e) i q (step m r) o =
+      ⊎-elim (λ h. omega (arith, settled v f n .smallest t e (worth-exit c best refl ∙ q))) (λ h. m (sym (h .0))) (earlier-cases o)
   none-earlier {v} f n (then {v = x} e p) i q (last z) o =
       ⊎-elim (λ h. omega (arith, z, settled v f n .smallest x e (first-worth f n e p i q .0))) (λ h. i x (List·Memᴰ·head refl) .not-exit (h .0)) (earlier-cases o)
   none-earlier {v} f n (then {v = x} e p) i q (step {l = l} m r) o =
       let inner = i x (List·Memᴰ·head refl) in
       let (value, rest) = first-worth f n e p i q in
-      ⊎-elim (λ h. omega (arith, settled v f n .smallest x e value)) (λ h. let r′ : ByNext next t x l = rw (h .0) r in none-earlier (inner .inside) (inner .not-exit) p (λ w j. i w (List·Memᴰ·tail j)) rest r′ (h .1)) (earlier-cases o)
+      let r′ : x ≡ next v → ByNext next t x l = λ h. rw h r in
+      ⊎-elim (λ h. omega (arith, settled v f n .smallest x e value)) (λ h. none-earlier (inner .inside) (inner .not-exit) p (λ w j. i w (List·Memᴰ·tail j)) rest (r′ (h .0)) (h .1))
+      (earlier-cases o)
 
   pub by-next-kept : {l : List ℕ} → ByNext next t s l → Kept E c s t l
   by-next-kept {l} r =
@@ -112,7 +118,8 @@ module _ {E : Graph} {c : Counts} {s t : ℕ} {best next : ℕ → ℕ} (b : Bub
       let best-sum = by-next-sum start n r in
       record {
         arm = record { path = by-next-path start n r; inner = λ v. by-next-inner start n r };
-        unbeaten = λ k a w. ⊎-elim (λ h. omega (arith, h, best-sum, sum-bounded start n (a .path) (a .inner))) (λ h. none-earlier start n (a .path) (a .inner) (h .0 ∙ best-sum) r (h .1)) w;
+        unbeaten = λ k a.
+            ⊎-elim (λ h. omega (arith, h, best-sum, sum-bounded start n (a .path) (a .inner))) (λ h. none-earlier start n (a .path) (a .inner) (h .0 ∙ best-sum) r (h .1));
       }
 
   -- the path ends where each edge of U leads to a later place, and no place is after m

@@ -39,7 +39,8 @@ module _ {E E′ : Graph} {s t : ℕ} {N : Graph} (k : Thread E E′ s t N) wher
   Met Q W v = (Q v × (Interior E s t v → ⊥)) ⊎ (Interior E s t v × W)
 
   -- one more edge: it stays where no end is interior, and a passage of U goes along the thread
-  pub met-step : (P Q : ℕ → Type 0) {W : Type 0} {u v : ℕ} → E u v → (E′ u v → P u → (Interior E s t u → ⊥) → (Interior E s t v → ⊥) → Q v) → (u ≡ s → P u → W) → (v ≡ t → W → Q v) → Met P W u → Met Q W v
+  pub met-step : (P Q : ℕ → Type 0) {W : Type 0} {u v : ℕ} → E u v → (E′ u v → P u → (Interior E s t u → ⊥) → (Interior E s t v → ⊥) → Q v)
+      → (u ≡ s → P u → W) → (v ≡ t → W → Q v) → Met P W u → Met Q W v
   met-step P Q {W} {u} {v} e edge-stays enter pass = ⊎-elim outside (λ h. inside (h .0 .inside) (h .0 .not-exit) (h .1))
     where
       inside : F E s t u → u ≢ t → W → Met Q W v
@@ -66,7 +67,8 @@ module _ {E E′ : Graph} {s t x y : ℕ} {N : Graph} (k : Thread E E′ s t N) 
 
   pub carried : {v : ℕ} → F E x y v → Met k (F E′ x y) (F E′ x y s × (s ≢ y)) v
   carried start = inl (start, λ i. o .start (i .inside) (i .not-exit))
-  carried (on f n e) = met-step k (F E′ x y) (F E′ x y) e (λ e′ g p q. on g n e′) (λ q g. (rw q at g, rw q at n)) (λ q w. rw q (along-thread (w .0) (w .1) (k .whole))) (carried f)
+  carried (on f n e) =
+      met-step k (F E′ x y) (F E′ x y) e (λ e′ g p q. on g n e′) (λ q g. (rw q at g, rw q at n)) (λ q w. rw q (along-thread (w .0) (w .1) (k .whole))) (carried f)
 
   pub carried-outside : {v : ℕ} → F E x y v → (Interior E s t v → ⊥) → F E′ x y v
   carried-outside f out = ⊎-elim (λ h. h .0) (λ h. absurd (out (h .0))) (carried f)
@@ -83,5 +85,6 @@ module _ {E E′ : Graph} {s t x y : ℕ} {N : Graph} (k : Thread E E′ s t N) 
 
   pub carried-back : {v : ℕ} → B E x y v → Met k (B E′ x y) (B E′ x y t × (t ≢ x)) v
   carried-back b =
-      ⊎-map (λ h. (F-reversed .0 (h .0), λ i. h .1 (interior-reversed (bubbloid-of k) .0 i))) (λ h. (interior-reversed (bubbloid-of k) .1 (h .0), (F-reversed .0 (h .1 .0), h .1 .1)))
+      ⊎-map (λ h. (F-reversed .0 (h .0), λ i. h .1 (interior-reversed (bubbloid-of k) .0 i)))
+      (λ h. (interior-reversed (bubbloid-of k) .1 (h .0), (F-reversed .0 (h .1 .0), h .1 .1)))
       (carried (thread-reversed k) (clear-reversed (bubbloid-of k) o) (F-reversed .1 b))

@@ -30,7 +30,8 @@ first-difference t (x ∷ l) [] n m = ⊎-elim (λ q. absurd (n (List·Memᴰ·h
 first-difference t (x ∷ l) (y ∷ k) n m = ordered-next t x y l k (first-difference t l k (λ i. n (List·Memᴰ·tail i)) (λ i. m (List·Memᴰ·tail i)))
 
 pub best-one : {score : Counts → List ℕ → ℕ} {E : Graph} {c : Counts} {s t : ℕ} {l k : List ℕ} → Best score E c s t l → Best score E c s t k → l ≡ k
-best-one {score} {E} {c} {s} {t} {l} {k} a b = ⊎-elim tied (λ h. absurd (⊎-elim (λ i. a .unbeaten k (b .arm) (inl i)) (λ i. b .unbeaten l (a .arm) (inl i)) h)) (compared (score c l) (score c k))
+best-one {score} {E} {c} {s} {t} {l} {k} a b =
+    ⊎-elim tied (λ h. absurd (⊎-elim (λ i. a .unbeaten k (b .arm) (inl i)) (λ i. b .unbeaten l (a .arm) (inl i)) h)) (compared (score c l) (score c k))
   where
     tied : score c l ≡ score c k → l ≡ k
     tied q =

@@ -9,7 +9,7 @@ use lib.ListN.{length, take, getD}
 use Rattle.bubble.specs.Superbubble.{Interior}
 use Rattle.bubble.proofs.Unique.{exit-unique}
 use Rattle.bubble.proofs.Reflect.{decided, decides-member}
-use Rattle.rule.specs.Lists.{Graph, Counts, Listing}
+use Rattle.rule.specs.Lists.{Graph, CandidateSet, Counts, Listing}
 use Rattle.rule.specs.Fold.{Rule, Item, Entrance, Fits, Applied, Folded}
 use Rattle.rule.specs.Laws.{RuleLaws, CandidateLaws}
 use Rattle.rule.proofs.Together.{entrances}
@@ -28,7 +28,9 @@ map-injective f (x ∷ l) [] h q = let z : _≡_ {A = ℕ} 0 1 = cc in absurd (o
 map-injective {A} f (x ∷ l) (y ∷ k) h q =
     let p : f x ≡ f y = cc in
     let r : map f l ≡ map f k = cc in
-    ap₂ {C = List A} (λ a b. a ∷ b) (h x y (List·Memᴰ·head refl) (List·Memᴰ·head refl) p) (map-injective f l k (λ a b i j. h a b (List·Memᴰ·tail i) (List·Memᴰ·tail j)) r)
+    let first : x ≡ y = h x y (List·Memᴰ·head refl) (List·Memᴰ·head refl) p in
+    let rest : l ≡ k = map-injective f l k (λ a b i j. h a b (List·Memᴰ·tail i) (List·Memᴰ·tail j)) r in
+    ap₂ {C = List A} (λ a b. a ∷ b) first rest
 
 -- v is on an arm, or dropped, or neither
 data Where (v : ℕ) (items : List Item) : Type 0 where
@@ -49,7 +51,7 @@ where-is v (i ∷ items) =
     widen n k (is-dropped j m h) = is-dropped j (List·Memᴰ·tail m) h
     widen n k (neither h) = neither (λ j m. ⊎-elim (λ q. rw q (n, k)) (h j) (List·Memᴰ·cases-cons m))
 
-module _ {G : Graph → Type 0} {C : Graph → ℕ → ℕ → Type 0} {R : Rule} (L : CandidateLaws G C) (M : RuleLaws R) where
+module _ {G : Graph → Type 0} {C : CandidateSet} {R : Rule} (L : CandidateLaws G C) (M : RuleLaws R) where
   pub item-unique : {E : Graph} {c : Counts} {i j : Item} → Fits C R E c i → Fits C R E c j → i .entrance ≡ j .entrance → i ≡ j
   item-unique {E} {c} {i} {j} f h p =
       let q : i .exit ≡ j .exit = exit-unique (L .superbubble (f .candidate)) (rw p (L .superbubble (h .candidate))) in
@@ -62,13 +64,16 @@ module _ {G : Graph → Type 0} {C : Graph → ℕ → ℕ → Type 0} {R : Rule
     candidates-same = listing-unique (one .listed) (other .listed)
 
     items-same : one .items ≡ other .items
-    items-same = map-injective (λ (i : Item). i .entrance) (one .items) (other .items) (λ i j m n. item-unique (one .fit i m) (other .fit j n)) (one .first ∙ ap (take b) candidates-same ∙ sym (other .first))
+    items-same =
+        map-injective (λ (i : Item). i .entrance) (one .items) (other .items) (λ i j m n. item-unique (one .fit i m) (other .fit j n))
+        (one .first ∙ ap (take b) candidates-same ∙ sym (other .first))
 
     counts-same : (v : ℕ) → Where v (one .items) → c′ v ≡ c″ v
     counts-same v (on-arm i m h) = let (j, k, q) = place-of h in rw (← q) (one .added i m j k ∙ sym (other .added i (rw items-same at m) j k))
     counts-same v (is-dropped i m h) = one .emptied i m v h ∙ sym (other .emptied i (rw items-same at m) v h)
     counts-same v (neither n) =
-        let out : (i : Item) → List·Memᴰ i (one .items) → Interior E (i .entrance) (i .exit) v → ⊥ = λ i m k. n i m .1 (one .fit i m .rest .holds v .1 (k, n i m .0)) in
+        let out : (i : Item) → List·Memᴰ i (one .items) → Interior E (i .entrance) (i .exit) v → ⊥ =
+        λ i m k. n i m .1 (one .fit i m .rest .holds v .1 (k, n i m .0)) in
         one .untouched v out ∙ sym (other .untouched v (λ i m. out i (rw items-same m)))
 
     pub applied-same : Same E′ E″ c′ c″
@@ -81,12 +86,14 @@ module _ {G : Graph → Type 0} {C : Graph → ℕ → ℕ → Type 0} {R : Rule
     }
 
   -- the two numbers returned coincide too
-  pub folded-same : {E E′ E″ : Graph} {c c′ c″ : Counts} {b f f′ l l′ : ℕ} → G E → (one : Folded C R E c b E′ c′ f l) (other : Folded C R E c b E″ c″ f′ l′) → Same E′ E″ c′ c″ × (f ≡ f′) × (l ≡ l′)
-  folded-same {E″ = E″} g one other =
+  pub folded-same : {E E′ E″ : Graph} {c c′ c″ : Counts} {b f f′ l l′ : ℕ} → G E
+      → (one : Folded C R E c b E′ c′ f l) (other : Folded C R E c b E″ c″ f′ l′) → Same E′ E″ c′ c″ × (f ≡ f′) × (l ≡ l′)
+  folded-same {E′ = E′} {E″ = E″} g one other =
       let same = applied-same (one .applied) (other .applied) in
       let kind = L .fewer (λ u v e. one .applied .edges u v .0 e .0) g in
       let kind′ = L .fewer (λ u v e. other .applied .edges u v .0 e .0) g in
       let (k, h, q) = one .remaining in
       let (k′, h′, q′) = other .remaining in
-      let carried : Listing (Entrance C E″) k = listing-same (λ v. (λ x. (x .0, L .same kind (same .edges) (x .1)), λ x. (x .0, L .same kind′ (λ u w. (same .edges u w .1, same .edges u w .0)) (x .1)))) h in
+      let back : (u v : ℕ) → E″ u v ↔ E′ u v = λ u v. (same .edges u v .1, same .edges u v .0) in
+      let carried : Listing (Entrance C E″) k = listing-same (λ v. (λ x. (x .0, L .same kind (same .edges) (x .1)), λ x. (x .0, L .same kind′ back (x .1)))) h in
       (same, one .how-many ∙ ap length (items-same (one .applied) (other .applied)) ∙ sym (other .how-many), q ∙ ap length (listing-unique carried h′) ∙ sym q′)

@@ -7,7 +7,7 @@ use mathlib.Core.List.{List, [], _∷_, _++_, map, map-append, List·Memᴰ, Lis
 use lib.ListN.{length, take, drop, getD}
 use lib.Seq.{take-add}
 use Rattle.bubble.specs.Superbubble.{F, Interior}
-use Rattle.rule.specs.Lists.{Graph, Counts, sum}
+use Rattle.rule.specs.Lists.{Graph, CandidateSet, Counts, sum}
 use Rattle.rule.specs.Fold.{Rule, Item, Fits, Applied}
 use Rattle.rule.specs.Laws.{SameInside, RuleLaws, CandidateLaws}
 use Rattle.rule.proofs.Inside.{inside-back, interior-inside}
@@ -15,7 +15,7 @@ use Rattle.rule.proofs.Together.{entrances, Staying}
 use Rattle.rule.proofs.Listings.{listing-unique, listing-same, getD-in, sum-same}
 use Rattle.rule.proofs.Remaining.{item-arm, after-applied, remaining-listed, other-untouched}
 
-module _ {G : Graph → Type 0} {C : Graph → ℕ → ℕ → Type 0} {R : Rule} (L : CandidateLaws G C) (M : RuleLaws R) {E E₁ E₂ : Graph} {c c₁ c₂ : Counts} {b₁ b₂ : ℕ}
+module _ {G : Graph → Type 0} {C : CandidateSet} {R : Rule} (L : CandidateLaws G C) (M : RuleLaws R) {E E₁ E₂ : Graph} {c c₁ c₂ : Counts} {b₁ b₂ : ℕ}
     (g : G E) (one : Applied C R E c b₁ E₁ c₁) (two : Applied C R E₁ c₁ b₂ E₂ c₂) where
   -- a candidate of the second fold is one of the first graph that the first fold left alone
   module _ (i : Item) (m : List·Memᴰ i (two .items)) where
@@ -41,11 +41,13 @@ module _ {G : Graph → Type 0} {C : Graph → ℕ → ℕ → Type 0} {R : Rule
   left-alone : (i : Item) → List·Memᴰ i (one .items) → (v : ℕ) → Interior E (i .entrance) (i .exit) v → c₂ v ≡ c₁ v
   left-alone i m v h =
       let entrance : Item → ℕ = λ x. x .entrance in
-      two .untouched v (λ j k l. L .apart g (one .fit i m .candidate) (before j k .0) (λ q. before j k .1 (Memᴰ·cast (sym q) (Memᴰ·map entrance m))) h (interior-inside (inside-back (same-inside j k)) l .inside))
+      let differs : (j : Item) (k : List·Memᴰ j (two .items)) → i .entrance ≢ j .entrance = λ j k q. before j k .1 (Memᴰ·cast (sym q) (Memᴰ·map entrance m)) in
+      two .untouched v (λ j k l. L .apart g (one .fit i m .candidate) (before j k .0) (differs j k) h (interior-inside (inside-back (same-inside j k)) l .inside))
 
   first-both : entrances (one .items ++ two .items) ≡ take (b₁ + b₂) (one .candidates)
   first-both =
-      map-append (λ (i : Item). i .entrance) (one .items) (two .items) ∙ ap₂ _++_ (one .first) (two .first ∙ ap (take b₂) (listing-unique (two .listed) (remaining-listed L M g one))) ∙ sym (take-add b₁ b₂ (one .candidates))
+      let rest : entrances (two .items) ≡ take b₂ (drop b₁ (one .candidates)) = two .first ∙ ap (take b₂) (listing-unique (two .listed) (remaining-listed L M g one)) in
+      map-append (λ (i : Item). i .entrance) (one .items) (two .items) ∙ ap₂ _++_ (one .first) rest ∙ sym (take-add b₁ b₂ (one .candidates))
 
   edges-both : (u v : ℕ) → E₂ u v ↔ Staying E (one .items ++ two .items) u v
   edges-both u v = (to, back)
@@ -61,8 +63,21 @@ module _ {G : Graph → Type 0} {C : Graph → ℕ → ℕ → Type 0} {R : Rule
           let first : E₁ u v = one .edges u v .1 (r .0, λ i m. r .1 i (Memᴰ·append-left (two .items) m)) in
           two .edges u v .1 (first, λ i m f h. r .1 i (Memᴰ·append-right (one .items) m) (same-inside i m .set u .1 f) (same-inside i m .set v .1 h))
 
+  -- what the first fold adds and empties, the second leaves alone
+  added-sooner : (i : Item) → List·Memᴰ i (one .items) → (j : ℕ) → j < length (i .arm) → c₂ (getD (i .arm) j 0) ≡ c (getD (i .arm) j 0) + R .portion (sum c (i .dropped)) (length (i .arm)) j
+  added-sooner i m j h = let v = getD (i .arm) j 0 in left-alone i m v (item-arm L M g one i m .inner v (getD-in (i .arm) j h)) ∙ one .added i m j h
+
+  emptied-sooner : (i : Item) → List·Memᴰ i (one .items) → (v : ℕ) → List·Memᴰ v (i .dropped) → c₂ v ≡ 0
+  emptied-sooner i m v h = left-alone i m v (one .fit i m .rest .holds v .0 h .0) ∙ one .emptied i m v h
+
+  untouched-both : (v : ℕ) → ((i : Item) → List·Memᴰ i (one .items ++ two .items) → Interior E (i .entrance) (i .exit) v → ⊥) → c₂ v ≡ c v
+  untouched-both v h =
+      let later : c₂ v ≡ c₁ v = two .untouched v (λ i m k. h i (Memᴰ·append-right (one .items) m) (interior-inside (inside-back (same-inside i m)) k)) in
+      later ∙ one .untouched v (λ i m. h i (Memᴰ·append-left (two .items) m))
+
   -- what the second fold adds is counted from the first graph
-  added-later : (i : Item) → List·Memᴰ i (two .items) → (j : ℕ) → j < length (i .arm) → c₂ (getD (i .arm) j 0) ≡ c (getD (i .arm) j 0) + R .portion (sum c (i .dropped)) (length (i .arm)) j
+  added-later : (i : Item) → List·Memᴰ i (two .items) → (j : ℕ) → j < length (i .arm)
+      → c₂ (getD (i .arm) j 0) ≡ c (getD (i .arm) j 0) + R .portion (sum c (i .dropped)) (length (i .arm)) j
   added-later i m j h =
       let v = getD (i .arm) j 0 in
       let here : c₁ v ≡ c v = same-count i m v (M .path (L .superbubble (before i m .0)) (fits-before i m .kept) .inner v (getD-in (i .arm) j h)) in
@@ -77,7 +92,7 @@ module _ {G : Graph → Type 0} {C : Graph → ℕ → ℕ → Type 0} {R : Rule
     first = first-both;
     fit = λ i m. ⊎-elim (one .fit i) (fits-before i) (List·Memᴰ·append-cases (one .items) m);
     edges = edges-both;
-    added = λ i m j h. ⊎-elim (λ k. left-alone i k (getD (i .arm) j 0) (item-arm L M g one i k .inner (getD (i .arm) j 0) (getD-in (i .arm) j h)) ∙ one .added i k j h) (λ k. added-later i k j h) (List·Memᴰ·append-cases (one .items) m);
-    emptied = λ i m v h. ⊎-elim (λ k. left-alone i k v (one .fit i k .rest .holds v .0 h .0) ∙ one .emptied i k v h) (λ k. two .emptied i k v h) (List·Memᴰ·append-cases (one .items) m);
-    untouched = λ v h. two .untouched v (λ i m k. h i (Memᴰ·append-right (one .items) m) (interior-inside (inside-back (same-inside i m)) k)) ∙ one .untouched v (λ i m. h i (Memᴰ·append-left (two .items) m));
+    added = λ i m j h. ⊎-elim (λ k. added-sooner i k j h) (λ k. added-later i k j h) (List·Memᴰ·append-cases (one .items) m);
+    emptied = λ i m v h. ⊎-elim (λ k. emptied-sooner i k v h) (λ k. two .emptied i k v h) (List·Memᴰ·append-cases (one .items) m);
+    untouched = untouched-both;
   }

@@ -6,7 +6,7 @@ use mathlib.Core.List.{List}
 use lib.ListN.{length}
 use Rattle.bubble.specs.Superbubble.{Interior, Superbubble}
 use Rattle.bubble.proofs.Number.{Below}
-use Rattle.rule.specs.Lists.{Graph, Counts, Listing, total}
+use Rattle.rule.specs.Lists.{Graph, CandidateSet, Counts, Listing, total}
 use Rattle.rule.specs.Fold.{Rule, NoCycle, Candidate, Entrance, first-takes-all, Folded, InTurn, budgets-sum}
 use Rattle.rule.specs.Laws.{RuleLaws, CandidateLaws}
 use Rattle.rule.proofs.Coincide.{Same, applied-same}
@@ -17,7 +17,8 @@ use Rattle.rule.proofs.BestLaws.{first-takes-all-laws}
 use Rattle.rule.proofs.Candidates.{candidate-laws}
 use Rattle.rule.proofs.Outermost.{no-interior}
 
-module _ {G : Graph → Type 0} {C : Graph → ℕ → ℕ → Type 0} {R : Rule} (L : CandidateLaws G C) (M : RuleLaws R) {E E′ : Graph} {c c′ : Counts} {budgets : List ℕ} (kind : G E) (turns : InTurn C R E c budgets E′ c′) where
+module _ {G : Graph → Type 0} {C : CandidateSet} {R : Rule} (L : CandidateLaws G C) (M : RuleLaws R) {E E′ : Graph} {c c′ : Counts} {budgets : List ℕ}
+    (kind : G E) (turns : InTurn C R E c budgets E′ c′) where
   -- folding with any budgets in turn gives the same as one fold with their sum
   pub as-once : {E″ : Graph} {c″ : Counts} {folded left : ℕ} → Folded C R E c (budgets-sum budgets) E″ c″ folded left → Same E′ E″ c′ c″
   as-once f = applied-same L M (in-turn-applied L M kind turns) (f .applied)
@@ -36,9 +37,11 @@ module _ {G : Graph → Type 0} {C : Graph → ℕ → ℕ → Type 0} {R : Rule
   gives-back k h f = nothing-changes (no-candidate k h) (f .applied)
 
 -- document 01's fold
-module _ {E E′ : Graph} {c c′ : Counts} {budgets : List ℕ} (n : ℕ) (below : Below E n) (acyclic : NoCycle E) (turns : InTurn Candidate first-takes-all E c budgets E′ c′) where
+module _ {E E′ : Graph} {c c′ : Counts} {budgets : List ℕ} (n : ℕ) (below : Below E n) (acyclic : NoCycle E)
+    (turns : InTurn Candidate first-takes-all E c budgets E′ c′) where
   -- For every list of one or more budgets, folding in turn, each on what the last left, gives the same edges and counts as one fold with their sum.
-  pub budgets-do-not-matter : {E″ : Graph} {c″ : Counts} {folded left : ℕ} → Folded Candidate first-takes-all E c (budgets-sum budgets) E″ c″ folded left → Same E′ E″ c′ c″
+  pub budgets-do-not-matter : {E″ : Graph} {c″ : Counts} {folded left : ℕ}
+      → Folded Candidate first-takes-all E c (budgets-sum budgets) E″ c″ folded left → Same E′ E″ c′ c″
   budgets-do-not-matter = as-once candidate-laws first-takes-all-laws acyclic turns
 
   -- The total of the counts never moves.
@@ -46,7 +49,8 @@ module _ {E E′ : Graph} {c c′ : Counts} {budgets : List ℕ} (n : ℕ) (belo
   total-never-moves = total-stays candidate-laws first-takes-all-laws acyclic turns n below
 
   -- Once the budgets reach the number of outermost superbubbles with an interior of the first graph, no superbubble with an interior is left,
-  pub none-with-interior : {l : List ℕ} → Listing (Entrance Candidate E) l → length l ≤ budgets-sum budgets → (s t : ℕ) → Superbubble E′ s t → (v : ℕ) → Interior E′ s t v → ⊥
+  pub none-with-interior : {l : List ℕ} → Listing (Entrance Candidate E) l → length l ≤ budgets-sum budgets → (s t : ℕ) → Superbubble E′ s t → (v : ℕ)
+      → Interior E′ s t v → ⊥
   none-with-interior k h =
       let fewer : Below E′ n = λ u v e. below u v (in-turn-applied candidate-laws first-takes-all-laws acyclic turns .edges u v .0 e .0) in
       no-interior fewer (no-candidate candidate-laws first-takes-all-laws acyclic turns k h)

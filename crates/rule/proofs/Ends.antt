@@ -4,7 +4,7 @@ use Prim.Native.Nat.{ℕ, _≤_}
 use mathlib.Core.Path.{_≡_, sym}
 use mathlib.Core.List.{List, List·Memᴰ, List·Memᴰ·not-nil}
 use lib.ListN.{length, drop, drop-of-length-le}
-use Rattle.rule.specs.Lists.{Graph, Counts, Listing}
+use Rattle.rule.specs.Lists.{Graph, CandidateSet, Counts, Listing}
 use Rattle.rule.specs.Fold.{Rule, Item, Entrance, Applied}
 use Rattle.rule.specs.Laws.{RuleLaws, CandidateLaws}
 use Rattle.rule.proofs.Listings.{listing-unique}
@@ -12,7 +12,8 @@ use Rattle.rule.proofs.Remaining.{remaining-listed}
 use Rattle.rule.proofs.Coincide.{Same}
 
 -- where the budget reaches the number of candidates, no candidate is left
-pub none-left : {G : Graph → Type 0} {C : Graph → ℕ → ℕ → Type 0} {R : Rule} {E E′ : Graph} {c c′ : Counts} {b : ℕ} {l : List ℕ} → CandidateLaws G C → RuleLaws R → G E → Applied C R E c b E′ c′
+pub none-left : {G : Graph → Type 0} {C : CandidateSet} {R : Rule} {E E′ : Graph} {c c′ : Counts} {b : ℕ} {l : List ℕ} → CandidateLaws G C
+    → RuleLaws R → G E → Applied C R E c b E′ c′
     → Listing (Entrance C E) l → length l ≤ b → (s t : ℕ) → C E′ s t → ⊥
 none-left {b = b} {l = l} L M g a k h s t d =
     let q : drop b (a .candidates) ≡ drop b l = rw (listing-unique (a .listed) k) in
@@ -20,7 +21,7 @@ none-left {b = b} {l = l} L M g a k h s t d =
     List·Memᴰ·not-nil (rw (drop-of-length-le l h) at m)
 
 -- a fold where there is no candidate gives back its input
-pub nothing-changes : {C : Graph → ℕ → ℕ → Type 0} {R : Rule} {E E′ : Graph} {c c′ : Counts} {b : ℕ} → ((s t : ℕ) → C E s t → ⊥) → Applied C R E c b E′ c′ → Same E′ E c′ c
+pub nothing-changes : {C : CandidateSet} {R : Rule} {E E′ : Graph} {c c′ : Counts} {b : ℕ} → ((s t : ℕ) → C E s t → ⊥) → Applied C R E c b E′ c′ → Same E′ E c′ c
 nothing-changes n a =
     let none : (i : Item) → List·Memᴰ i (a .items) → ⊥ = λ i m. n (i .entrance) (i .exit) (a .fit i m .candidate) in
     record {

@@ -1,7 +1,7 @@
--- Paths and walks of a graph are paths and walks of every graph that has its edges.
+-- Paths and walks of a graph are paths and walks of every graph that has its edges; the interior in two graphs.
 -- Assumes nothing.
 use Prim.Native.Nat.{ℕ}
-use Rattle.bubble.specs.Superbubble.{F, F.start, F.on, B, B.end, B.from, Walk, Walk.edge, Walk.more, Reaches, Reaches.none, Reaches.then}
+use Rattle.bubble.specs.Superbubble.{F, F.start, F.on, B, B.end, B.from, Interior, Walk, Walk.edge, Walk.more, Reaches, Reaches.none, Reaches.then}
 use Rattle.rule.specs.Lists.{Graph}
 
 module _ {E E′ : Graph} (fewer : (u v : ℕ) → E′ u v → E u v) where
@@ -20,3 +20,7 @@ module _ {E E′ : Graph} (fewer : (u v : ℕ) → E′ u v → E u v) where
   pub walk-fewer : {P Q : ℕ → Type 0} {u v : ℕ} → ((x : ℕ) → P x → Q x) → Walk E′ P u v → Walk E Q u v
   walk-fewer {u = u} {v = v} h (edge p e q) = edge (h u p) (fewer u v e) (h v q)
   walk-fewer {v = w} h (more {v = v} p e q) = more (walk-fewer h p) (fewer v w e) (h w q)
+
+-- interior in one graph, and in U of the other, is interior there
+pub interior-also : {E E′ : Graph} {s t v : ℕ} → Interior E s t v → F E′ s t v → Interior E′ s t v
+interior-also i f = record { inside = f; not-entrance = i .not-entrance; not-exit = i .not-exit }

@@ -38,7 +38,9 @@ first-follows-none (fresh n d) (begins q) f = n (Memᴰ·cast (sym q) (follows-h
 
 -- only one follows each
 pub one-follows : {u v w : ℕ} {l : List ℕ} → Distinct l → Follows l u v → Follows l u w → v ≡ w
-one-follows {u} {v} {w} (fresh {a = x} {l = l} n d) f g = ⊎-elim (λ q. ⊎-elim (λ r. begins-one (q .1) (r .1)) (λ h. absurd (again (q .0) h)) (follows-cases g)) (λ h. ⊎-elim (λ r. absurd (again (r .0) h)) (one-follows d h) (follows-cases g)) (follows-cases f)
+one-follows {u} {v} {w} (fresh {a = x} {l = l} n d) f g =
+    ⊎-elim (λ q. ⊎-elim (λ r. begins-one (q .1) (r .1)) (λ h. absurd (again (q .0) h)) (follows-cases g))
+    (λ h. ⊎-elim (λ r. absurd (again (r .0) h)) (one-follows d h) (follows-cases g)) (follows-cases f)
   where
     again : {z : ℕ} → u ≡ x → Follows l u z → ⊥
     again q h = n (Memᴰ·cast (sym q) (follows-tail h))
@@ -46,7 +48,8 @@ one-follows {u} {v} {w} (fresh {a = x} {l = l} n d) f g = ⊎-elim (λ q. ⊎-el
 -- and each follows only one
 pub follows-one : {u v w : ℕ} {l : List ℕ} → Distinct l → Follows l v u → Follows l w u → v ≡ w
 follows-one (fresh n d) f g =
-    ⊎-elim (λ q. ⊎-elim (λ r. q .0 ∙ sym (r .0)) (λ h. absurd (first-follows-none d (q .1) h)) (follows-cases g)) (λ h. ⊎-elim (λ r. absurd (first-follows-none d (r .1) h)) (follows-one d h) (follows-cases g)) (follows-cases f)
+    ⊎-elim (λ q. ⊎-elim (λ r. q .0 ∙ sym (r .0)) (λ h. absurd (first-follows-none d (q .1) h)) (follows-cases g))
+    (λ h. ⊎-elim (λ r. absurd (first-follows-none d (r .1) h)) (follows-one d h) (follows-cases g)) (follows-cases f)
 
 -- the list leads from its first entry to its last, u to t, through every entry
 module _ (t : ℕ) {R : Graph} where
@@ -60,4 +63,5 @@ module _ (t : ℕ) {R : Graph} where
 
   pub follows-to : {u v w : ℕ} (l : List ℕ) → ((v w : ℕ) → Follows (u ∷ l ++ (t ∷ [])) v w → R v w) → Follows (u ∷ l ++ (t ∷ [])) v w → Reaches R w t
   follows-to [] h f = rw (List·Memᴰ·eq-of-singleton (follows-head f)) none
-  follows-to (x ∷ l) h f = ⊎-elim (λ q. rw (begins-one (q .1) (begins refl)) (follows-whole l (λ v w k. h v w (later k)))) (follows-to l (λ v w k. h v w (later k))) (follows-cases f)
+  follows-to (x ∷ l) h f =
+      ⊎-elim (λ q. rw (begins-one (q .1) (begins refl)) (follows-whole l (λ v w k. h v w (later k)))) (follows-to l (λ v w k. h v w (later k))) (follows-cases f)

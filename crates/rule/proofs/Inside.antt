@@ -8,7 +8,7 @@ use Rattle.bubble.specs.Superbubble.{F, F.start, Interior}
 use Rattle.rule.specs.Lists.{Graph}
 use Rattle.rule.specs.Kept.{Via, Via.bare, Via.then, Arm}
 use Rattle.rule.specs.Laws.{SameInside}
-use Rattle.rule.proofs.Fewer.{F-fewer}
+use Rattle.rule.proofs.Fewer.{F-fewer, interior-also}
 use Rattle.rule.proofs.Arms.{arm-inside}
 
 pub same-edges-inside : {E E′ : Graph} (s t : ℕ) → ((u v : ℕ) → E u v ↔ E′ u v) → SameInside E E′ s t
@@ -33,9 +33,10 @@ inside-back h = record {
 }
 
 pub interior-inside : {E E′ : Graph} {s t v : ℕ} → SameInside E E′ s t → Interior E s t v → Interior E′ s t v
-interior-inside {v = v} h i = record { inside = h .set v .0 (i .inside); not-entrance = i .not-entrance; not-exit = i .not-exit }
+interior-inside {v = v} h i = interior-also i (h .set v .0 (i .inside))
 
-via-carried : {E E′ : Graph} {P : ℕ → Type 0} {t s : ℕ} {l : List ℕ} → ((u v : ℕ) → P u → P v → E u v → E′ u v) → P s → ((v : ℕ) → List·Memᴰ v (l ++ (t ∷ [])) → P v) → Via E t s l → Via E′ t s l
+via-carried : {E E′ : Graph} {P : ℕ → Type 0} {t s : ℕ} {l : List ℕ} → ((u v : ℕ) → P u → P v → E u v → E′ u v) → P s
+    → ((v : ℕ) → List·Memᴰ v (l ++ (t ∷ [])) → P v) → Via E t s l → Via E′ t s l
 via-carried {t = t} h p i (bare {s = s} e) = bare (h s t p (i t (List·Memᴰ·head refl)) e)
 via-carried h p i (then {s = s} {v = v} e r) = let q = i v (List·Memᴰ·head refl) in then (h s v p q e) (via-carried h q (λ w m. i w (List·Memᴰ·tail m)) r)
 

@@ -22,7 +22,9 @@ rising-unique (first {v = v} h r) empty f g = absurd (List·Memᴰ·not-nil (f v
 rising-unique (first {v = x} {l = l} h r) (first {v = y} {l = k} i s) f g = ap₂ {C = List ℕ} (λ a b. a ∷ b) same (rising-unique r s to back)
   where
     same : x ≡ y
-    same = ⊎-elim (λ q. q) (λ m. ⊎-elim (λ q. sym q) (λ n. let a = i x m in let b = h y n in omega arith) (List·Memᴰ·cases-cons (g y (List·Memᴰ·head refl)))) (List·Memᴰ·cases-cons (f x (List·Memᴰ·head refl)))
+    same =
+        let other : List·Memᴰ x k → x ≡ y = λ m. ⊎-elim (λ q. sym q) (λ n. let a = i x m in let b = h y n in omega arith) (List·Memᴰ·cases-cons (g y (List·Memᴰ·head refl))) in
+        ⊎-elim (λ q. q) other (List·Memᴰ·cases-cons (f x (List·Memᴰ·head refl)))
 
     to : (v : ℕ) → List·Memᴰ v l → List·Memᴰ v k
     to v m = ⊎-elim (λ q. let a = h v m in absurd (omega (arith, same))) (λ n. n) (List·Memᴰ·cases-cons (f v (List·Memᴰ·tail m)))
@@ -38,7 +40,9 @@ listing-same h a = record { rising = a .rising; holds = λ v. (λ m. h v .0 (a .
 
 rising-last : {v : ℕ} {l : List ℕ} → Rising l → ((w : ℕ) → List·Memᴰ w l → w < v) → Rising (l ++ (v ∷ []))
 rising-last empty h = first (λ w m. absurd (List·Memᴰ·not-nil m)) empty
-rising-last {v} (first {v = x} {l = l} g r) h = first (λ w m. ⊎-elim (g w) (λ i. let q : w ≡ v = List·Memᴰ·eq-of-singleton i in rw q (h x (List·Memᴰ·head refl))) (List·Memᴰ·append-cases l m)) (rising-last r (λ w m. h w (List·Memᴰ·tail m)))
+rising-last {v} (first {v = x} {l = l} g r) h =
+    let at-last : (w : ℕ) → List·Memᴰ w (v ∷ []) → x < w = λ w i. let q : w ≡ v = List·Memᴰ·eq-of-singleton i in rw q (h x (List·Memᴰ·head refl)) in
+    first (λ w m. ⊎-elim (g w) (at-last w) (List·Memᴰ·append-cases l m)) (rising-last r (λ w m. h w (List·Memᴰ·tail m)))
 
 -- a listing of what lies below k grows by k, or stays as it is
 listing-grows : {P : ℕ → Type 0} {k : ℕ} {l : List ℕ} → P k → Listing (λ v. (v < k) × P v) l → Listing (λ v. (v < suc k) × P v) (l ++ (k ∷ []))
@@ -46,10 +50,15 @@ listing-grows {P} {k} {l} p a = record { rising = rising-last (a .rising) (λ w 
   where
     to : (v : ℕ) → List·Memᴰ v (l ++ (k ∷ [])) → (v < suc k) × P v
     to v m =
-        ⊎-elim (λ i. let (h, r) = a .holds v .0 i in (omega arith, r)) (λ i. let q : v ≡ k = List·Memᴰ·eq-of-singleton i in (omega arith, rw q p)) (List·Memᴰ·append-cases l m)
+        ⊎-elim (λ i. let (h, r) = a .holds v .0 i in (omega arith, r)) (λ i. let q : v ≡ k = List·Memᴰ·eq-of-singleton i in (omega arith, rw q p))
+        (List·Memᴰ·append-cases l m)
 
     back : (v : ℕ) → (v < suc k) × P v → List·Memᴰ v (l ++ (k ∷ []))
-    back v h = elim (ℕ-discrete v k) [ yes q ↦ Memᴰ·append-right l (List·Memᴰ·head q) | no n ↦ Memᴰ·append-left (k ∷ []) (a .holds v .1 (omega (arith, h .0), h .1)) ]
+    back v h =
+        elim (ℕ-discrete v k) [
+          | yes q ↦ Memᴰ·append-right l (List·Memᴰ·head q)
+          | no n ↦ Memᴰ·append-left (k ∷ []) (a .holds v .1 (omega (arith, h .0), h .1))
+        ]
 
 listing-stays : {P : ℕ → Type 0} {k : ℕ} {l : List ℕ} → (P k → ⊥) → Listing (λ v. (v < k) × P v) l → Listing (λ v. (v < suc k) × P v) l
 listing-stays {P} {k} {l} n a = listing-same (λ v. (λ h. (omega (arith, h .0), h .1), λ h. let m : v ≢ k = λ q. n (rw q at (h .1)) in (omega (arith, h .0), h .1))) a
@@ -72,7 +81,8 @@ rising-rest [] r = r
 rising-rest (x ∷ l) (first h r) = rising-rest l r
 
 rising-apart : {v : ℕ} (l : List ℕ) {k : List ℕ} → Rising (l ++ k) → List·Memᴰ v l → List·Memᴰ v k → ⊥
-rising-apart {v} (x ∷ l) (first h r) m n = ⊎-elim (λ q. lt-irrefl v (rw q (rw q at (h v (Memᴰ·append-right l n))))) (λ i. rising-apart l r i n) (List·Memᴰ·cases-cons m)
+rising-apart {v} (x ∷ l) (first h r) m n =
+    ⊎-elim (λ q. lt-irrefl v (rw q (rw q at (h v (Memᴰ·append-right l n))))) (λ i. rising-apart l r i n) (List·Memᴰ·cases-cons m)
 rising-apart [] r m n = List·Memᴰ·not-nil m
 
 module _ {P : ℕ → Type 0} {l : List ℕ} (a : Listing P l) (k : ℕ) where

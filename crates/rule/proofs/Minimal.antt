@@ -59,7 +59,9 @@ module _ {E E′ : Graph} {s t x y : ℕ} {N : Graph} (k : Thread E E′ s t N) 
   superbubble-after p = record { bubbloid = bubbloid-after k o (p .bubbloid); minimality = minimal }
     where
       minimal : (z : ℕ) → F E′ x y z → z ≢ y → Bubbloid E′ x z → ⊥
-      minimal z f n c = ⊎-elim outside (λ h. let (u, m) = reached-on-thread k o f (h .0) in minimal-on-thread p (then (k .from-entrance m) m) f n c) (carried k o (F-fewer (fewer k) f))
+      minimal z f n c =
+          ⊎-elim outside (λ h. let (u, m) = reached-on-thread k o f (h .0) in minimal-on-thread p (then (k .from-entrance m) m) f n c)
+          (carried k o (F-fewer (fewer k) f))
         where
           outside : F E′ x y z × (Interior E s t z → ⊥) → ⊥
           outside h =

@@ -7,7 +7,7 @@ use mathlib.Core.List.{List, [], _∷_, _++_, List·Memᴰ, List·Memᴰ·tail, 
 use native.Mathlib.Decide.{ℕ-discrete}
 use Rattle.bubble.specs.Superbubble.{F, F.on, Interior, Bubbloid}
 use Rattle.bubble.proofs.Facts.{closed-backward, no-edge-from-exit}
-use Rattle.rule.specs.Lists.{Graph, Counts, Follows}
+use Rattle.rule.specs.Lists.{Graph, CandidateSet, Counts, Follows}
 use Rattle.rule.specs.Fold.{Rule, Item, Fits}
 use Rattle.rule.specs.Laws.{RuleLaws, CandidateLaws}
 use Rattle.rule.proofs.Thread.{Thread}
@@ -20,7 +20,8 @@ use Rattle.rule.proofs.Coincide.{item-unique}
 abbrev pub Next : Item → Graph
 Next i = Follows (i .entrance ∷ i .arm ++ (i .exit ∷ []))
 
-module _ {G : Graph → Type 0} {C : Graph → ℕ → ℕ → Type 0} {R : Rule} (L : CandidateLaws G C) (M : RuleLaws R) {E : Graph} {c : Counts} (g : G E) {items : List Item} (fit : (i : Item) → List·Memᴰ i items → Fits C R E c i) where
+module _ {G : Graph → Type 0} {C : CandidateSet} {R : Rule} (L : CandidateLaws G C) (M : RuleLaws R) {E : Graph} {c : Counts}
+    (g : G E) {items : List Item} (fit : (i : Item) → List·Memᴰ i items → Fits C R E c i) where
   module _ (i : Item) (m : List·Memᴰ i items) where
     bubbloid : Bubbloid E (i .entrance) (i .exit)
     bubbloid = L .superbubble (fit i m .candidate) .bubbloid
@@ -34,11 +35,14 @@ module _ {G : Graph → Type 0} {C : Graph → ℕ → ℕ → Type 0} {R : Rule
     off-path : {v : ℕ} → List·Memᴰ v (i .dropped) → List·Memᴰ v (i .entrance ∷ i .arm ++ (i .exit ∷ [])) → ⊥
     off-path {v} d k =
         let (inner, off) = fit i m .rest .holds v .0 d in
-        ⊎-elim (inner .not-entrance) (λ l. ⊎-elim off (λ j. inner .not-exit (List·Memᴰ·eq-of-singleton j)) (List·Memᴰ·append-cases (i .arm) l)) (List·Memᴰ·cases-cons k)
+        ⊎-elim (inner .not-entrance) (λ l. ⊎-elim off (λ j. inner .not-exit (List·Memᴰ·eq-of-singleton j)) (List·Memᴰ·append-cases (i .arm) l))
+        (List·Memᴰ·cases-cons k)
 
     -- so no edge of it stays
     pub row-empty : (u v : ℕ) → List·Memᴰ u (i .dropped) → Staying E items u v → ⊥
-    row-empty u v d e = let inner = fit i m .rest .holds u .0 d .0 in off-path d (follows-tail (e .1 i m (inner .inside) (on (inner .inside) (inner .not-exit) (e .0))))
+    row-empty u v d e =
+        let inner = fit i m .rest .holds u .0 d .0 in
+        off-path d (follows-tail (e .1 i m (inner .inside) (on (inner .inside) (inner .not-exit) (e .0))))
 
     pub column-empty : (u v : ℕ) → List·Memᴰ v (i .dropped) → Staying E items u v → ⊥
     column-empty u v d e =
@@ -55,7 +59,9 @@ module _ {G : Graph → Type 0} {C : Graph → ℕ → ℕ → Type 0} {R : Rule
           | yes q ↦ item-unique L M (fit i m) (fit j n) q
           | no l ↦
               elim (ℕ-discrete u (i .entrance)) [
-                | no z ↦ absurd (L .apart g (fit i m .candidate) (fit j n .candidate) l (record { inside = thread .tail-inside f; not-entrance = z; not-exit = not-exit f }) h)
+                | no z ↦
+                    let inner : Interior E (i .entrance) (i .exit) u = record { inside = thread .tail-inside f; not-entrance = z; not-exit = not-exit f } in
+                    absurd (L .apart g (fit i m .candidate) (fit j n .candidate) l inner h)
                 | yes z ↦
                     let other : Interior E (j .entrance) (j .exit) u = record {
                       inside = h;

@@ -33,7 +33,8 @@ apart-clear {s = s} {t = t} {x = x} {y = y} p q n a = record {
       ];
 }
 
-pub apart-inside : {E E′ : Graph} {s t x y : ℕ} {N : Graph} → Thread E E′ s t N → (v : ℕ) × Interior E s t v → Superbubble E x y → s ≢ x → Apart E s t x y → SameInside E E′ x y
+pub apart-inside : {E E′ : Graph} {s t x y : ℕ} {N : Graph} → Thread E E′ s t N → (v : ℕ) × Interior E s t v → Superbubble E x y → s ≢ x
+    → Apart E s t x y → SameInside E E′ x y
 apart-inside {E} {E′} {s} {t} {x} {y} k (w, i) q n a = record {
   set = λ v. (λ f. carried-outside k (apart-clear (k .superbubble) q n a) f (λ j. a v j f), F-fewer (fewer k));
   edges = λ u v f g. (λ e. k .edges u v .1 (e, λ p r. absurd (not-both u v f g p r e)), fewer k u v);

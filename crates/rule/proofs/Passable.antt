@@ -14,7 +14,7 @@ use Rattle.bubble.proofs.Nesting.{Nested, nest, meets-nested}
 use Rattle.rule.specs.Lists.{Graph, Follows}
 use Rattle.rule.specs.Kept.{Arm}
 use Rattle.rule.specs.Laws.{OneFolded, CandidateLaws}
-use Rattle.rule.proofs.Fewer.{F-fewer, reaches-fewer}
+use Rattle.rule.proofs.Fewer.{F-fewer, reaches-fewer, interior-also}
 use Rattle.rule.proofs.Thread.{Thread, interior-reversed, Clear}
 use Rattle.rule.proofs.Carry.{bubbloid-of, fewer, carried, carried-outside}
 use Rattle.rule.proofs.Minimal.{superbubble-after, superbubble-before, interior-clear}
@@ -36,7 +36,9 @@ pub record OutermostPassable (E : Graph) (s t : ℕ) : Type 0 where
 
 -- a superbubble whose exit is interior to another is nested in it
 nest-by-exit : {E : Graph} {s t x y : ℕ} → Superbubble E s t → Superbubble E x y → Interior E x y t → Nested E s t x y
-nest-by-exit p q i v f = interior-reversed (q .bubbloid) .1 (nest (superbubble-reversed .0 p) (superbubble-reversed .0 q) (interior-reversed (q .bubbloid) .0 i) v (inside-reversed (p .bubbloid) .0 f))
+nest-by-exit p q i v f =
+    interior-reversed (q .bubbloid) .1
+    (nest (superbubble-reversed .0 p) (superbubble-reversed .0 q) (interior-reversed (q .bubbloid) .0 i) v (inside-reversed (p .bubbloid) .0 f))
 
 passable-same : {E E′ : Graph} {s t : ℕ} → SameEdges E E′ → Passable E s t → Passable E′ s t
 passable-same {s = s} {t = t} h p = record {
@@ -52,7 +54,8 @@ outermost-same h p = record {
 }
 
 outermost-apart : {E : Graph} {s t x y v : ℕ} → OutermostPassable E s t → OutermostPassable E x y → s ≢ x → Interior E s t v → F E x y v → ⊥
-outermost-apart {s = s} {t = t} {x = x} {y = y} p q n i f = ⊎-elim (p .in-no-other x y (q .passable)) (q .in-no-other s t (p .passable)) (meets-nested (p .passable .superbubble) (q .passable .superbubble) n i f)
+outermost-apart {s = s} {t = t} {x = x} {y = y} p q n i f =
+    ⊎-elim (p .in-no-other x y (q .passable)) (q .in-no-other s t (p .passable)) (meets-nested (p .passable .superbubble) (q .passable .superbubble) n i f)
 
 -- one superbubble s, t is folded
 module _ {E E′ : Graph} {s t : ℕ} {N : Graph} (k : Thread E E′ s t N) where
@@ -69,14 +72,17 @@ module _ {E E′ : Graph} {s t : ℕ} {N : Graph} (k : Thread E E′ s t N) wher
     passable-after : Passable E x y → Passable E′ x y
     passable-after p = record {
       superbubble = superbubble-after k o (p .superbubble);
-      interior = let (v, i) = p .interior in ⊎-elim (λ h. (v, record { inside = h .0; not-entrance = i .not-entrance; not-exit = i .not-exit })) (λ h. (s, record { inside = h .1 .0; not-entrance = λ q. not-entrance (sym q); not-exit = h .1 .1 })) (carried k o (i .inside));
+      interior =
+          let (v, i) = p .interior in
+          let at-entrance : F E′ x y s × (s ≢ y) → Interior E′ x y s = λ h. record { inside = h .0; not-entrance = λ q. not-entrance (sym q); not-exit = h .1 } in
+          ⊎-elim (λ h. (v, interior-also i (h .0))) (λ h. (s, at-entrance (h .1))) (carried k o (i .inside));
       passed-once = λ e r. p .passed-once (fewer k x y e) (reaches-fewer (fewer k) r);
     }
 
     passable-before : Passable E′ x y → Passable E x y
     passable-before p = record {
       superbubble = superbubble-before k o (p .superbubble);
-      interior = let (v, i) = p .interior in (v, record { inside = F-fewer (fewer k) (i .inside); not-entrance = i .not-entrance; not-exit = i .not-exit });
+      interior = let (v, i) = p .interior in (v, interior-also i (F-fewer (fewer k) (i .inside)));
       passed-once = λ e r. p .passed-once (bare-stays e) (still-reaches k stop-outside start-outside r);
     }
       where
@@ -87,7 +93,11 @@ module _ {E E′ : Graph} {s t : ℕ} {N : Graph} (k : Thread E E′ s t N) wher
   around-clear : {x y a b : ℕ} → Clear E s t x y → Superbubble E a b → Nested E x y a b → Clear E s t a b
   around-clear {x} {y} {a} {b} o q n = record {
     start = λ f m. elim (ℕ-discrete a s) [ yes r ↦ whole r | no l ↦ inside (nest q (k .superbubble) (record { inside = f; not-entrance = l; not-exit = m })) ];
-    stop = λ f m. elim (ℕ-discrete b t) [ yes r ↦ whole (entrance-unique (rw r at q) (k .superbubble)) | no l ↦ inside (nest-by-exit q (k .superbubble) (record { inside = f; not-entrance = m; not-exit = l })) ];
+    stop = λ f m.
+        elim (ℕ-discrete b t) [
+          | yes r ↦ whole (entrance-unique (rw r at q) (k .superbubble))
+          | no l ↦ inside (nest-by-exit q (k .superbubble) (record { inside = f; not-entrance = m; not-exit = l }))
+        ];
   }
     where
       i : Interior E a b x
@@ -110,16 +120,17 @@ module _ {E E′ : Graph} {s t : ℕ} {N : Graph} (k : Thread E E′ s t N) wher
           let clear = around-clear o (q .superbubble) n in
           let i = n x start in
           let later = passable-after clear q in
-          let i′ : Interior E′ a b x = record { inside = carried-outside k clear (i .inside) (start-outside o); not-entrance = i .not-entrance; not-exit = i .not-exit } in
-          p .in-no-other a b later (nest (p .passable .superbubble) (later .superbubble) i′)
+          p .in-no-other a b later (nest (p .passable .superbubble) (later .superbubble) (interior-also i (carried-outside k clear (i .inside) (start-outside o))))
 
   outermost-after : {x y : ℕ} → OutermostPassable E s t → OutermostPassable E x y → x ≢ s → OutermostPassable E′ x y
   outermost-after {x} {y} p q n = record {
-    passable = passable-after (apart-clear (k .superbubble) (q .passable .superbubble) (λ e. n (sym e)) (λ v. outermost-apart p q (λ e. n (sym e)))) (q .passable);
+    passable =
+        let differs : s ≢ x = λ e. n (sym e) in
+        passable-after (apart-clear (k .superbubble) (q .passable .superbubble) differs (λ v. outermost-apart p q differs)) (q .passable);
     in-no-other = λ a b r m.
         let before = passable-before (interior-clear k (r .superbubble) (r .interior .1)) r in
         let i = m x start in
-        q .in-no-other a b before (nest (q .passable .superbubble) (before .superbubble) (record { inside = F-fewer (fewer k) (i .inside); not-entrance = i .not-entrance; not-exit = i .not-exit }));
+        q .in-no-other a b before (nest (q .passable .superbubble) (before .superbubble) (interior-also i (F-fewer (fewer k) (i .inside))));
   }
 
 -- every graph

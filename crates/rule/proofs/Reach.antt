@@ -18,7 +18,9 @@ module _ {E E′ : Graph} {s t : ℕ} {N : Graph} (k : Thread E E′ s t N) wher
 
   still : {u v : ℕ} → (Interior E s t u → ⊥) → Reaches E u v → Met k (Reaches E′ u) (Reaches E′ u s) v
   still out none = inl (none, out)
-  still {u} out (then r e) = met-step k (Reaches E′ u) (Reaches E′ u) e (λ e′ h p q. then h e′) (λ q h. rw q at h) (λ q h. rw q (reaches-append h (thread-reaches (k .whole)))) (still out r)
+  still {u} out (then r e) =
+      met-step k (Reaches E′ u) (Reaches E′ u) e (λ e′ h p q. then h e′) (λ q h. rw q at h)
+      (λ q h. rw q (reaches-append h (thread-reaches (k .whole)))) (still out r)
 
   pub still-reaches : {u v : ℕ} → (Interior E s t u → ⊥) → (Interior E s t v → ⊥) → Reaches E u v → Reaches E′ u v
   still-reaches out far r = ⊎-elim (λ h. h .0) (λ h. absurd (far (h .0))) (still out r)

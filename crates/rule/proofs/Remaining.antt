@@ -7,14 +7,15 @@ use mathlib.Core.List.{List, List·Memᴰ, Memᴰ·map, Memᴰ·cast}
 use lib.ListN.{length, take, drop, length-map, length-take}
 use Rattle.bubble.specs.Superbubble.{Interior}
 use Rattle.bubble.proofs.Pigeonhole.{Distinct}
-use Rattle.rule.specs.Lists.{Graph, Counts, Listing}
+use Rattle.rule.specs.Lists.{Graph, CandidateSet, Counts, Listing}
 use Rattle.rule.specs.Kept.{Arm}
 use Rattle.rule.specs.Fold.{Rule, Item, Entrance, Applied, Folded}
 use Rattle.rule.specs.Laws.{RuleLaws, CandidateLaws}
 use Rattle.rule.proofs.Together.{entrances, Foldable, After, after}
 use Rattle.rule.proofs.Listings.{listing-unique, listing-same, listing-front, listing-rest}
 
-module _ {G : Graph → Type 0} {C : Graph → ℕ → ℕ → Type 0} {R : Rule} (L : CandidateLaws G C) (M : RuleLaws R) {E E′ : Graph} {c c′ : Counts} {b : ℕ} (g : G E) (a : Applied C R E c b E′ c′) where
+module _ {G : Graph → Type 0} {C : CandidateSet} {R : Rule} (L : CandidateLaws G C) (M : RuleLaws R) {E E′ : Graph} {c c′ : Counts} {b : ℕ} (g : G E)
+    (a : Applied C R E c b E′ c′) where
   pub item-arm : (i : Item) → List·Memᴰ i (a .items) → Arm E (i .entrance) (i .exit) (i .arm)
   item-arm i m = M .path (L .superbubble (a .fit i m .candidate)) (a .fit i m .kept)
 
@@ -48,6 +49,7 @@ module _ {G : Graph → Type 0} {C : Graph → ℕ → ℕ → Type 0} {R : Rule
   items-number = sym (length-map (a .items) (λ (i : Item). i .entrance)) ∙ ap length (a .first) ∙ length-take b (a .candidates)
 
 -- what is returned as left is the number of the candidates after the first b: the new graph need not be searched
-pub left-number : {G : Graph → Type 0} {C : Graph → ℕ → ℕ → Type 0} {R : Rule} {E E′ : Graph} {c c′ : Counts} {b folded left : ℕ} → CandidateLaws G C → RuleLaws R → G E → (f : Folded C R E c b E′ c′ folded left)
+pub left-number : {G : Graph → Type 0} {C : CandidateSet} {R : Rule} {E E′ : Graph} {c c′ : Counts} {b folded left : ℕ} → CandidateLaws G C
+    → RuleLaws R → G E → (f : Folded C R E c b E′ c′ folded left)
     → left ≡ length (drop b (f .applied .candidates))
 left-number {b = b} L M g f = let (l, k, q) = f .remaining in q ∙ ap length (listing-unique k (remaining-listed L M g (f .applied)))

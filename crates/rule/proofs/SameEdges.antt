@@ -4,7 +4,7 @@ use Prim.Native.Nat.{ℕ}
 use mathlib.Core.Logic.{_↔_}
 use Rattle.bubble.specs.Superbubble.{F, B, Interior, Bubbloid, Superbubble}
 use Rattle.rule.specs.Lists.{Graph}
-use Rattle.rule.proofs.Fewer.{F-fewer, B-fewer, reaches-fewer, walk-fewer}
+use Rattle.rule.proofs.Fewer.{F-fewer, B-fewer, reaches-fewer, walk-fewer, interior-also}
 
 abbrev pub SameEdges : Graph → Graph → Type 0
 SameEdges E E′ = (u v : ℕ) → E u v ↔ E′ u v
@@ -20,7 +20,7 @@ module _ {E E′ : Graph} (h : SameEdges E E′) where
   from u v = h u v .1
 
   pub interior-same : {s t v : ℕ} → Interior E s t v → Interior E′ s t v
-  interior-same i = record { inside = F-fewer to (i .inside); not-entrance = i .not-entrance; not-exit = i .not-exit }
+  interior-same i = interior-also i (F-fewer to (i .inside))
 
   pub bubbloid-same : {s t : ℕ} → Bubbloid E s t → Bubbloid E′ s t
   bubbloid-same b = record {
@@ -31,4 +31,7 @@ module _ {E E′ : Graph} (h : SameEdges E E′) where
   }
 
 pub superbubble-same : {E E′ : Graph} {s t : ℕ} → SameEdges E E′ → Superbubble E s t → Superbubble E′ s t
-superbubble-same h p = record { bubbloid = bubbloid-same h (p .bubbloid); minimality = λ x f n b. p .minimality x (F-fewer (from h) f) n (bubbloid-same (turned-round h) b) }
+superbubble-same h p = record {
+  bubbloid = bubbloid-same h (p .bubbloid);
+  minimality = λ x f n b. p .minimality x (F-fewer (from h) f) n (bubbloid-same (turned-round h) b);
+}

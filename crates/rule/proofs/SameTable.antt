@@ -30,7 +30,8 @@ rising-row [] h = empty
 rising-row (x ∷ l) h = first (λ w. first-smallest x l h) (rising-row l (rises-tail x l h))
 
 in-list : {v : ℕ} {l : List ℕ} → In v l ↔ List·Memᴰ v l
-in-list {v} {l} = (λ i. Memᴰ·cast (sym (i .stands)) (getD-in l (i .place) (i .inside)), λ m. let (j, h, q) = place-of m in record { place = j; inside = h; stands = q })
+in-list {v} {l} =
+    (λ i. Memᴰ·cast (sym (i .stands)) (getD-in l (i .place) (i .inside)), λ m. let (j, h, q) = place-of m in record { place = j; inside = h; stands = q })
 
 module _ {starts targets : List ℕ} (w : WellFormed starts targets) (v : ℕ) (h : v < vertices starts) where
   next-start : getD starts (v + 1) 0 ≡ getD starts v 0 + length (row starts targets v)
@@ -42,12 +43,14 @@ module _ {starts targets : List ℕ} (w : WellFormed starts targets) (v : ℕ) (
       let q : getD starts (v + 1) 0 ≡ getD starts v 0 + (getD starts (v + 1) 0 - getD starts v 0) = omega (arith, l .ordered) in
       ap (λ (n : ℕ). take n targets) q ∙ take-add (getD starts v 0) (getD starts (v + 1) 0 - getD starts v 0) targets
 
-module _ {starts targets starts′ targets′ : List ℕ} (w : WellFormed starts targets) (w′ : WellFormed starts′ targets′) (n : length starts ≡ length starts′) (same : (u v : ℕ) → Edge starts targets u v ↔ Edge starts′ targets′ u v) where
+module _ {starts targets starts′ targets′ : List ℕ} (w : WellFormed starts targets) (w′ : WellFormed starts′ targets′)
+    (n : length starts ≡ length starts′) (same : (u v : ℕ) → Edge starts targets u v ↔ Edge starts′ targets′ u v) where
   row-same : (v : ℕ) → v < vertices starts → row starts targets v ≡ row starts′ targets′ v
   row-same v h =
       let h′ : v < vertices starts′ = omega arith in
       rising-unique (rising-row (row starts targets v) (w .rows-rise v h)) (rising-row (row starts′ targets′ v) (w′ .rows-rise v h′))
-      (λ x m. in-list .0 (same v x .0 (record { vertex = h; listed = in-list .1 m }) .listed)) (λ x m. in-list .0 (same v x .1 (record { vertex = h′; listed = in-list .1 m }) .listed))
+      (λ x m. in-list .0 (same v x .0 (record { vertex = h; listed = in-list .1 m }) .listed))
+      (λ x m. in-list .0 (same v x .1 (record { vertex = h′; listed = in-list .1 m }) .listed))
 
   -- the start of v, and the targets before it
   before : (v : ℕ) → v < length starts → (getD starts v 0 ≡ getD starts′ v 0) × (take (getD starts v 0) targets ≡ take (getD starts′ v 0) targets′)
@@ -57,7 +60,8 @@ module _ {starts targets starts′ targets′ : List ℕ} (w : WellFormed starts
       let k : v < vertices starts = omega arith in
       let k′ : v < vertices starts′ = omega arith in
       let one : getD starts (v + 1) 0 ≡ getD starts′ (v + 1) 0 = next-start w v k ∙ ap₂ _+_ q (ap length (row-same v k)) ∙ sym (next-start w′ v k′) in
-      let two : take (getD starts (v + 1) 0) targets ≡ take (getD starts′ (v + 1) 0) targets′ = targets-to-next w v k ∙ ap₂ _++_ r (row-same v k) ∙ sym (targets-to-next w′ v k′) in
+      let two : take (getD starts (v + 1) 0) targets ≡ take (getD starts′ (v + 1) 0) targets′ =
+      targets-to-next w v k ∙ ap₂ _++_ r (row-same v k) ∙ sym (targets-to-next w′ v k′) in
       (rw add-one at one, rw add-one at two)
 
   pub same-table : (starts ≡ starts′) × (targets ≡ targets′)
@@ -69,7 +73,8 @@ module _ {starts targets starts′ targets′ : List ℕ} (w : WellFormed starts
       let all : take (length targets) targets ≡ take (length targets′) targets′ = rw (e, e′) at r in
       (ext-getD 0 starts starts′ n (λ v h. before v h .0), sym (take-length targets) ∙ all ∙ take-length targets′)
 
-pub same-lists : {starts targets counts starts′ targets′ counts′ : List ℕ} → WellFormed starts targets → WellFormed starts′ targets′ → length starts ≡ length starts′ → length counts ≡ length counts′
+pub same-lists : {starts targets counts starts′ targets′ counts′ : List ℕ} → WellFormed starts targets → WellFormed starts′ targets′
+    → length starts ≡ length starts′ → length counts ≡ length counts′
     → Same (Edge starts targets) (Edge starts′ targets′) (count-of counts) (count-of counts′) → (starts ≡ starts′) × (targets ≡ targets′) × (counts ≡ counts′)
 same-lists {counts = counts} {counts′ = counts′} w w′ n m s =
     let (q, r) = same-table w w′ n (s .edges) in

@@ -8,7 +8,7 @@ use Rattle.bubble.specs.Superbubble.{Interior, Superbubble}
 use Rattle.bubble.proofs.Number.{Below}
 use Rattle.table.specs.Table.{vertices, Edge, WellFormed, Counted, countSum}
 use Rattle.table.proofs.RowLaws.{edge-below}
-use Rattle.rule.specs.Lists.{Graph, Listing, total}
+use Rattle.rule.specs.Lists.{Graph, CandidateSet, Listing, total}
 use Rattle.rule.specs.Fold.{Rule, NoCycle, Candidate, Entrance, first-takes-all, InTurn, InTurn.once, InTurn.then, budgets-sum}
 use Rattle.rule.specs.Laws.{RuleLaws, CandidateLaws}
 use Rattle.rule.specs.Tables.{count-of, SameSize, TableFolded, TablesInTurn, TablesInTurn.once, TablesInTurn.then}
@@ -22,12 +22,14 @@ edges-below : {starts targets : List ℕ} → WellFormed starts targets → Belo
 edges-below {starts} {targets} w u v e = (e .vertex, edge-below starts targets (w .targets-below) u v e)
 
 -- tables of the same size as a third, with the same edges and counts, are the same
-same-size-lists : {starts counts starts₁ targets₁ counts₁ starts₂ targets₂ counts₂ : List ℕ} → SameSize starts counts starts₁ targets₁ counts₁ → SameSize starts counts starts₂ targets₂ counts₂
+same-size-lists : {starts counts starts₁ targets₁ counts₁ starts₂ targets₂ counts₂ : List ℕ} → SameSize starts counts starts₁ targets₁ counts₁
+    → SameSize starts counts starts₂ targets₂ counts₂
     → Same (Edge starts₁ targets₁) (Edge starts₂ targets₂) (count-of counts₁) (count-of counts₂) → (starts₁ ≡ starts₂) × (targets₁ ≡ targets₂) × (counts₁ ≡ counts₂)
 same-size-lists a b = same-lists (a .well-formed) (b .well-formed) (a .as-many-vertices ∙ sym (b .as-many-vertices)) (a .as-many-counts ∙ sym (b .as-many-counts))
 
-module _ {C : Graph → ℕ → ℕ → Type 0} {R : Rule} where
-  turns-size : {starts targets counts budgets starts′ targets′ counts′ : List ℕ} → TablesInTurn C R starts targets counts budgets starts′ targets′ counts′ → SameSize starts counts starts′ targets′ counts′
+module _ {C : CandidateSet} {R : Rule} where
+  turns-size : {starts targets counts budgets starts′ targets′ counts′ : List ℕ}
+      → TablesInTurn C R starts targets counts budgets starts′ targets′ counts′ → SameSize starts counts starts′ targets′ counts′
   turns-size (once f) = f .same-size
   turns-size (then f r) =
       let a = f .same-size in
@@ -40,9 +42,10 @@ module _ {C : Graph → ℕ → ℕ → Type 0} {R : Rule} where
   graphs-in-turn (then f r) = then (f .graph-folded) (graphs-in-turn r)
 
 -- two folds of one table with one budget coincide: tables, counts and the numbers returned
-pub table-folds-coincide : {G : Graph → Type 0} {C : Graph → ℕ → ℕ → Type 0} {R : Rule} {starts targets counts starts₁ targets₁ counts₁ starts₂ targets₂ counts₂ : List ℕ} {budget folded₁ left₁ folded₂ left₂ : ℕ}
+pub table-folds-coincide : {G : Graph → Type 0} {C : CandidateSet} {R : Rule} {starts targets counts starts₁ targets₁ counts₁ starts₂ targets₂ counts₂ : List ℕ} {budget folded₁ left₁ folded₂ left₂ : ℕ}
     → CandidateLaws G C → RuleLaws R → G (Edge starts targets)
-    → TableFolded C R starts targets counts budget starts₁ targets₁ counts₁ folded₁ left₁ → TableFolded C R starts targets counts budget starts₂ targets₂ counts₂ folded₂ left₂
+    → TableFolded C R starts targets counts budget starts₁ targets₁ counts₁ folded₁ left₁
+    → TableFolded C R starts targets counts budget starts₂ targets₂ counts₂ folded₂ left₂
     → (starts₁ ≡ starts₂) × (targets₁ ≡ targets₂) × (counts₁ ≡ counts₂) × (folded₁ ≡ folded₂) × (left₁ ≡ left₂)
 table-folds-coincide L M g f h =
     let (same, q, r) = folded-same L M g (f .graph-folded) (h .graph-folded) in
@@ -52,24 +55,29 @@ table-folds-coincide L M g f h =
 module _ {starts targets counts budgets starts′ targets′ counts′ : List ℕ} (table : Counted starts targets counts) (acyclic : NoCycle (Edge starts targets))
     (turns : TablesInTurn Candidate first-takes-all starts targets counts budgets starts′ targets′ counts′) where
   -- For every list of one or more budgets, folding in turn, each on what the last left, gives the same starts, targets and counts as one fold with their sum.
-  pub in-turn-as-once : {starts″ targets″ counts″ : List ℕ} {folded left : ℕ} → TableFolded Candidate first-takes-all starts targets counts (budgets-sum budgets) starts″ targets″ counts″ folded left
+  pub in-turn-as-once : {starts″ targets″ counts″ : List ℕ} {folded left : ℕ}
+      → TableFolded Candidate first-takes-all starts targets counts (budgets-sum budgets) starts″ targets″ counts″ folded left
       → (starts′ ≡ starts″) × (targets′ ≡ targets″) × (counts′ ≡ counts″)
-  in-turn-as-once f = same-size-lists (turns-size turns) (f .same-size) (as-once candidate-laws first-takes-all-laws acyclic (graphs-in-turn turns) (f .graph-folded))
+  in-turn-as-once f =
+      same-size-lists (turns-size turns) (f .same-size) (as-once candidate-laws first-takes-all-laws acyclic (graphs-in-turn turns) (f .graph-folded))
 
   -- The sum of the counts never moves.
   pub count-sum-stays : countSum counts′ ≡ countSum counts
   count-sum-stays =
       let below = edges-below (table .well-formed) in
-      let moved : total (count-of counts′) (length counts) ≡ total (count-of counts) (length counts) = rw (table .count-each) (total-stays candidate-laws first-takes-all-laws acyclic (graphs-in-turn turns) (vertices starts) below) in
+      let moved : total (count-of counts′) (length counts) ≡ total (count-of counts) (length counts) = rw (table .count-each)
+      (total-stays candidate-laws first-takes-all-laws acyclic (graphs-in-turn turns) (vertices starts) below) in
       sym (total-of-counts counts′) ∙ rw (turns-size turns .as-many-counts) (moved ∙ total-of-counts counts)
 
   -- Once the budgets reach the number of outermost superbubbles with an interior of the first table, no superbubble with an interior is left,
-  pub no-interior-left : {l : List ℕ} → Listing (Entrance Candidate (Edge starts targets)) l → length l ≤ budgets-sum budgets → (s t : ℕ) → Superbubble (Edge starts′ targets′) s t → (v : ℕ) → Interior (Edge starts′ targets′) s t v → ⊥
+  pub no-interior-left : {l : List ℕ} → Listing (Entrance Candidate (Edge starts targets)) l → length l ≤ budgets-sum budgets → (s t : ℕ)
+      → Superbubble (Edge starts′ targets′) s t → (v : ℕ) → Interior (Edge starts′ targets′) s t v → ⊥
   no-interior-left = none-with-interior (vertices starts) (edges-below (table .well-formed)) acyclic (graphs-in-turn turns)
 
   -- and a further fold with any budget gives back its input.
   pub further-fold-gives-back : {l : List ℕ} → Listing (Entrance Candidate (Edge starts targets)) l → length l ≤ budgets-sum budgets
-      → {starts″ targets″ counts″ : List ℕ} {budget folded left : ℕ} → TableFolded Candidate first-takes-all starts′ targets′ counts′ budget starts″ targets″ counts″ folded left
+      → {starts″ targets″ counts″ : List ℕ} {budget folded left : ℕ}
+      → TableFolded Candidate first-takes-all starts′ targets′ counts′ budget starts″ targets″ counts″ folded left
       → (starts″ ≡ starts′) × (targets″ ≡ targets′) × (counts″ ≡ counts′)
   further-fold-gives-back k h f =
       let a = turns-size turns in

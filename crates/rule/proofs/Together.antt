@@ -7,7 +7,7 @@ use mathlib.Core.List.{List, [], _∷_, map, List·Memᴰ, List·Memᴰ·head, L
 use Rattle.bubble.specs.Superbubble.{F, Superbubble}
 use Rattle.bubble.proofs.Facts.{exit-inside}
 use Rattle.bubble.proofs.Pigeonhole.{Distinct, Distinct.fresh}
-use Rattle.rule.specs.Lists.{Graph}
+use Rattle.rule.specs.Lists.{Graph, CandidateSet}
 use Rattle.rule.specs.Kept.{Arm}
 use Rattle.rule.specs.Fold.{Item, Stays}
 use Rattle.rule.specs.Laws.{SameInside, OneFolded, CandidateLaws}
@@ -33,7 +33,7 @@ First E i u v = E u v × Stays E (i .entrance) (i .exit) (i .arm) u v
 pub first-folded : (E : Graph) (i : Item) → OneFolded E (i .entrance) (i .exit) (i .arm) (First E i)
 first-folded E i u v = (λ e. e, λ e. e)
 
-module _ (C : Graph → ℕ → ℕ → Type 0) where
+module _ (C : CandidateSet) where
   -- the item is a candidate with a path
   pub record Foldable (E : Graph) (i : Item) : Type 0 where
     pub candidate : C E (i .entrance) (i .exit)
@@ -44,9 +44,10 @@ module _ (C : Graph → ℕ → ℕ → Type 0) where
     pub others : C E′ x y ↔ (C E x y × (List·Memᴰ x (entrances items) → ⊥))
     pub inside : C E x y → (List·Memᴰ x (entrances items) → ⊥) → SameInside E E′ x y
 
-module _ {G : Graph → Type 0} {C : Graph → ℕ → ℕ → Type 0} (L : CandidateLaws G C) where
+module _ {G : Graph → Type 0} {C : CandidateSet} (L : CandidateLaws G C) where
   -- the graph with the first item folded, in which the rest is still to be folded
-  module _ {E : Graph} {i : Item} {items : List Item} (g : G E) (cs : (j : Item) → List·Memᴰ j (i ∷ items) → Foldable C E j) (new : List·Memᴰ (i .entrance) (entrances items) → ⊥) where
+  module _ {E : Graph} {i : Item} {items : List Item} (g : G E) (cs : (j : Item) → List·Memᴰ j (i ∷ items) → Foldable C E j)
+      (new : List·Memᴰ (i .entrance) (entrances items) → ⊥) where
     first-others : (x y : ℕ) → C (First E i) x y ↔ (C E x y × (x ≢ i .entrance))
     first-others = let k = cs i (List·Memᴰ·head refl) in L .others g (k .candidate) (k .path) (first-folded E i)
 
@@ -79,7 +80,12 @@ module _ {G : Graph → Type 0} {C : Graph → ℕ → ℕ → Type 0} (L : Cand
             ((a, st i (List·Memᴰ·head refl)), λ j m f k. st j (List·Memᴰ·tail m) (rest-inside j m .set u .1 f) (rest-inside j m .set v .1 k))
 
         back : Staying (First E i) items u v → E′ u v
-        back r = h u v .1 (r .0 .0, λ j m. ⊎-elim (λ q. rw q (r .0 .1)) (λ k f l. r .1 j k (rest-inside j k .set u .0 f) (rest-inside j k .set v .0 l)) (List·Memᴰ·cases-cons m))
+        back r =
+            h u v .1 (
+              r .0 .0,
+              λ j m. ⊎-elim (λ q. rw q (r .0 .1)) (λ k f l. r .1 j k (rest-inside j k .set u .0 f) (rest-inside j k .set v .0 l))
+                  (List·Memᴰ·cases-cons m),
+            )
 
     after-first : {E′ : Graph} {x y : ℕ} → After C (First E i) E′ items x y → After C E E′ (i ∷ items) x y
     after-first {E′} {x} {y} r = record {
@@ -101,6 +107,7 @@ module _ {G : Graph → Type 0} {C : Graph → ℕ → ℕ → Type 0} (L : Cand
         inside = λ c n. same-edges-inside x y (λ u v. (to u v, back u v));
       }
 
-  pub after : {E E′ : Graph} (items : List Item) → G E → ((i : Item) → List·Memᴰ i items → Foldable C E i) → Distinct (entrances items) → AllFolded E items E′ → (x y : ℕ) → After C E E′ items x y
+  pub after : {E E′ : Graph} (items : List Item) → G E → ((i : Item) → List·Memᴰ i items → Foldable C E i) → Distinct (entrances items)
+      → AllFolded E items E′ → (x y : ℕ) → After C E E′ items x y
   after [] g cs d h x y = after-none g h
   after (i ∷ items) g cs (fresh n d) h x y = after-first g cs n (after items (L .fewer (λ u v e. e .0) g) (rest-foldable g cs n) d (rest-folded g cs n h) x y)

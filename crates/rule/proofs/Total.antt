@@ -11,7 +11,7 @@ use Rattle.bubble.proofs.Facts.{predecessor}
 use Rattle.bubble.proofs.Pigeonhole.{Distinct, Distinct.empty, Distinct.fresh, distinct-append}
 use Rattle.bubble.proofs.Number.{Below}
 use Rattle.bubble.proofs.Reflect.{decided, decides-member}
-use Rattle.rule.specs.Lists.{Graph, Counts, sum, total}
+use Rattle.rule.specs.Lists.{Graph, CandidateSet, Counts, sum, total}
 use Rattle.rule.specs.Kept.{Arm}
 use Rattle.rule.specs.Fold.{Rule, Item, Fits, Applied}
 use Rattle.rule.specs.Laws.{RuleLaws, CandidateLaws}
@@ -34,7 +34,8 @@ in-touched (j ∷ items) (List·Memᴰ·tail m) h = Memᴰ·append-right (j .arm
 of-touched : {v : ℕ} (items : List Item) → List·Memᴰ v (touched items) → (i : Item) × List·Memᴰ i items × List·Memᴰ v (i .arm ++ i .dropped)
 unfolding touched
 of-touched [] m = absurd (List·Memᴰ·not-nil m)
-of-touched (j ∷ items) m = ⊎-elim (λ h. (j, List·Memᴰ·head refl, h)) (λ k. let (i, n, h) = of-touched items k in (i, List·Memᴰ·tail n, h)) (List·Memᴰ·append-cases (j .arm ++ j .dropped) m)
+of-touched (j ∷ items) m =
+    ⊎-elim (λ h. (j, List·Memᴰ·head refl, h)) (λ k. let (i, n, h) = of-touched items k in (i, List·Memᴰ·tail n, h)) (List·Memᴰ·append-cases (j .arm ++ j .dropped) m)
 
 distinct-front : (l k : List ℕ) → Distinct (l ++ k) → Distinct l
 distinct-front [] k d = empty
@@ -47,7 +48,7 @@ inner-distinct {t = t} l p a = go (arm-distinct (p .bubbloid) a)
     go : {s : ℕ} → Distinct (s ∷ l ++ (t ∷ [])) → Distinct l
     go (fresh n d) = distinct-front l (t ∷ []) d
 
-module _ {G : Graph → Type 0} {C : Graph → ℕ → ℕ → Type 0} {R : Rule} (L : CandidateLaws G C) (M : RuleLaws R) {E : Graph} {c : Counts} where
+module _ {G : Graph → Type 0} {C : CandidateSet} {R : Rule} (L : CandidateLaws G C) (M : RuleLaws R) {E : Graph} {c : Counts} where
   -- arm and dropped are the interior
   module _ (i : Item) (f : Fits C R E c i) where
     arm-of : Arm E (i .entrance) (i .exit) (i .arm)
@@ -57,10 +58,15 @@ module _ {G : Graph → Type 0} {C : Graph → ℕ → ℕ → Type 0} {R : Rule
     of-interior v m = ⊎-elim (arm-of .inner v) (λ k. f .rest .holds v .0 k .0) (List·Memᴰ·append-cases (i .arm) m)
 
     in-interior : (v : ℕ) → Interior E (i .entrance) (i .exit) v → List·Memᴰ v (i .arm ++ i .dropped)
-    in-interior v h = elim (decided (decides-member v (i .arm))) [ yes m ↦ Memᴰ·append-left (i .dropped) m | no n ↦ Memᴰ·append-right (i .arm) (f .rest .holds v .1 (h, n)) ]
+    in-interior v h = elim (decided (decides-member v (i .arm))) [
+      | yes m ↦ Memᴰ·append-left (i .dropped) m
+      | no n ↦ Memᴰ·append-right (i .arm)
+          (f .rest .holds v .1 (h, n))
+    ]
 
     interior-distinct : Distinct (i .arm ++ i .dropped)
-    interior-distinct = distinct-append (inner-distinct (i .arm) (L .superbubble (f .candidate)) arm-of) (rising-distinct (f .rest .rising)) (λ v m k. f .rest .holds v .0 k .1 m)
+    interior-distinct =
+        distinct-append (inner-distinct (i .arm) (L .superbubble (f .candidate)) arm-of) (rising-distinct (f .rest .rising)) (λ v m k. f .rest .holds v .0 k .1 m)
 
     -- all that is dropped is added again
     whole-dropped : (l : List ℕ) → R .keeps E c (i .entrance) (i .exit) l → total (R .portion (sum c (i .dropped)) (length l)) (length l) ≡ sum c (i .dropped)

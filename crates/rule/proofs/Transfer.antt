@@ -18,7 +18,8 @@ module _ {E E′ : Graph} {s t x y : ℕ} {N : Graph} (k : Thread E E′ s t N) 
   -- F within B, carried to the graph after
   match-after : ((v : ℕ) → F E x y v → B E x y v) → (v : ℕ) → F E′ x y v → B E′ x y v
   match-after h v f =
-      ⊎-elim (λ g. g .0) (λ g. along-thread-back k o (g .1 .0) (g .1 .1) (k .to-exit (reached-on-thread k o f (g .0) .1))) (carried-back k o (h v (F-fewer (fewer k) f)))
+      ⊎-elim (λ g. g .0) (λ g. along-thread-back k o (g .1 .0) (g .1 .1) (k .to-exit (reached-on-thread k o f (g .0) .1)))
+      (carried-back k o (h v (F-fewer (fewer k) f)))
 
   -- a path after that leads from U to y, s other than y, passes t
   passes-exit : {u : ℕ} → s ≢ y → B E′ x y u → F E s t u → u ≢ t → B E′ x y t × (t ≢ x)
@@ -44,7 +45,8 @@ module _ {E E′ : Graph} {s t x y : ℕ} {N : Graph} (k : Thread E E′ s t N) 
           inside-to-exit n (B-fewer (fewer k) b) (bubbloid-of k .matching v .0 (g .0 .inside))
 
 -- a walk along the thread
-thread-walk : {E E′ : Graph} {s t x y v : ℕ} {N : Graph} → Thread E E′ s t N → Clear E s t x y → F E′ x y s → s ≢ y → Reaches N s v → (v ≡ s) ⊎ Walk E′ (F E′ x y) s v
+thread-walk : {E E′ : Graph} {s t x y v : ℕ} {N : Graph} → Thread E E′ s t N → Clear E s t x y → F E′ x y s → s ≢ y → Reaches N s v
+    → (v ≡ s) ⊎ Walk E′ (F E′ x y) s v
 thread-walk k o f n none = inl refl
 thread-walk {v = v} k o f n (then r m) =
     let g = along-thread k o f n (then r m) in
@@ -71,7 +73,12 @@ module _ {E E′ : Graph} {s t x y : ℕ} {N : Graph} (k : Thread E E′ s t N) 
           elim (ℕ-discrete u s) [
             | yes r ↦ edge f′ (rw r at (stays k m)) g′
             | no l ↦
-                let i : Interior E s t u = record { inside = k .tail-inside m; not-entrance = l; not-exit = λ r. no-edge-from-exit (bubbloid-of k) (k .head-inside m) (rw r at (k .joined m)) } in
+                let i : Interior E s t u = record {
+                  inside = k .tail-inside m;
+                  not-entrance = l;
+                  not-exit = λ r. no-edge-from-exit (bubbloid-of k)
+                      (k .head-inside m) (rw r at (k .joined m));
+                } in
                 let h : F E x y u = F-fewer (fewer k) (c .matching u .1 (from (stays k m) n (c .matching t .0 g′))) in
                 ⊎-elim (λ a. absurd (a .1 i)) (λ a. absurd (a .1 .1 q)) (carried k o h)
           ]
@@ -89,7 +96,8 @@ module _ {E E′ : Graph} {s t x y : ℕ} {N : Graph} (k : Thread E E′ s t N) 
 
   -- one more edge of a walk before
   walk-step : {a u v : ℕ} → F E x y u → E u v → F E x y v → Met k (Led a) (Led a s) u → Met k (Walk E′ (F E′ x y) a) (Led a s) v
-  walk-step {a} {u} {v} f e g = met-step k (Led a) (Walk E′ (F E′ x y) a) e edge-stays (λ q d. rw q at d) (λ r d. rw r (⊎-elim (λ q. rw q (through r)) (λ w. walk-append w (through r)) d))
+  walk-step {a} {u} {v} f e g =
+      met-step k (Led a) (Walk E′ (F E′ x y) a) e edge-stays (λ q d. rw q at d) (λ r d. rw r (⊎-elim (λ q. rw q (through r)) (λ w. walk-append w (through r)) d))
     where
       edge-stays : E′ u v → Led a u → (Interior E s t u → ⊥) → (Interior E s t v → ⊥) → Walk E′ (F E′ x y) a v
       edge-stays e′ d p q = let g′ = carried-outside k o g q in ⊎-elim (λ r. rw r (edge (carried-outside k o f p) e′ g′)) (λ w. more w e′ g′) d
@@ -99,7 +107,9 @@ module _ {E E′ : Graph} {s t x y : ℕ} {N : Graph} (k : Thread E E′ s t N) 
       through r =
           elim (ℕ-discrete u s) [
             | yes q ↦ pass-bare (rw q at f) (rw r at g) (rw (q, r) at e)
-            | no n ↦ ⊎-elim (λ h. absurd (no-edge-inside k (h .1) n e (closed-backward (bubbloid-of k) (at-exit r) (λ q. bubbloid-of k .distinct (sym q ∙ r)) e) (at-exit r))) (λ h. pass (h .1 .0) (h .1 .1)) (carried k o f)
+            | no n ↦ ⊎-elim (λ h. absurd
+                (no-edge-inside k (h .1) n e (closed-backward (bubbloid-of k) (at-exit r) (λ q. bubbloid-of k .distinct (sym q ∙ r)) e)
+                (at-exit r))) (λ h. pass (h .1 .0) (h .1 .1)) (carried k o f)
           ]
         where
           at-exit : v ≡ t → F E s t v
@@ -129,11 +139,13 @@ module _ {E E′ : Graph} {s t x y : ℕ} {N : Graph} (k : Thread E E′ s t N) 
   leaves : {u v : ℕ} → Interior E s t u → Walk E (F E x y) u v → Left u v
   leaves i (edge f e g) = step-on i e (edge f e g) (edge (i .inside) e)
   leaves i (more w e g) =
-      ⊎-elim (λ h. step-on (h .1) e (more w e g) (more (h .0) e)) (λ h. inr (h .0, inr (⊎-elim (λ q. edge (walk-end (h .0)) (rw q e) g) (λ p. more p e g) (h .1)))) (leaves i w)
+      ⊎-elim (λ h. step-on (h .1) e (more w e g) (more (h .0) e))
+      (λ h. inr (h .0, inr (⊎-elim (λ q. edge (walk-end (h .0)) (rw q e) g) (λ p. more p e g) (h .1)))) (leaves i w)
 
   no-cycle-inside : {v : ℕ} → Interior E s t v → Walk E (F E x y) v v → ⊥
   no-cycle-inside {v} i w =
-      ⊎-elim (λ h. bubbloid-of k .acyclicity v (h .0)) (λ h. ⊎-elim (λ q. i .not-exit (sym q)) (λ p. no-cycle-outside (λ j. j .not-exit refl) (walk-append p (h .0))) (h .1)) (leaves i w)
+      ⊎-elim (λ h. bubbloid-of k .acyclicity v (h .0))
+      (λ h. ⊎-elim (λ q. i .not-exit (sym q)) (λ p. no-cycle-outside (λ j. j .not-exit refl) (walk-append p (h .0))) (h .1)) (leaves i w)
 
   no-cycle : (v : ℕ) → Walk E (F E x y) v v → ⊥
   no-cycle v w = no-cycle-outside (λ i. no-cycle-inside i w) w
@@ -147,10 +159,12 @@ module _ {E E′ : Graph} {s t x y : ℕ} {N : Graph} (k : Thread E E′ s t N) 
 
   pub bubbloid-after : Bubbloid E x y → Bubbloid E′ x y
   bubbloid-after b =
-      let back : (v : ℕ) → B E′ x y v → F E′ x y v = λ v g. B-reversed .0 (match-after turned clear (λ u f. B-reversed .1 (b .matching u .1 (F-reversed .0 f))) v (F-reversed .1 g)) in
+      let back : (v : ℕ) → B E′ x y v → F E′ x y v = λ v g. B-reversed .0
+      (match-after turned clear (λ u f. B-reversed .1 (b .matching u .1 (F-reversed .0 f))) v (F-reversed .1 g)) in
       make (b .distinct) (match-after k o (λ v. b .matching v .0)) back (λ v w. b .acyclicity v (walk-fewer (fewer k) (λ u. F-fewer (fewer k)) w))
 
   pub bubbloid-before : Bubbloid E′ x y → Bubbloid E x y
   bubbloid-before b =
-      let back : (v : ℕ) → B E x y v → F E x y v = λ v g. B-reversed .0 (match-before turned clear (λ u f. B-reversed .1 (b .matching u .1 (F-reversed .0 f))) v (F-reversed .1 g)) in
+      let back : (v : ℕ) → B E x y v → F E x y v = λ v g. B-reversed .0
+      (match-before turned clear (λ u f. B-reversed .1 (b .matching u .1 (F-reversed .0 f))) v (F-reversed .1 g)) in
       make (b .distinct) (match-before k o (λ v. b .matching v .0)) back (no-cycle k o b)

@@ -7,7 +7,7 @@ use mathlib.Core.Logic.{_↔_}
 use mathlib.Core.List.{List, [], _∷_, _++_, map, List·Memᴰ}
 use lib.ListN.{length, take, getD}
 use Rattle.bubble.specs.Superbubble.{F, Walk, Interior, Outermost}
-use Rattle.rule.specs.Lists.{Graph, Counts, Listing, sum, Follows}
+use Rattle.rule.specs.Lists.{Graph, CandidateSet, Counts, Listing, sum, Follows}
 use Rattle.rule.specs.Kept.{Kept}
 
 -- the graphs that document 01 folds: no walk of one or more edges closes
@@ -33,12 +33,8 @@ to-first d k (suc j) = 0
 abbrev pub first-takes-all : Rule
 first-takes-all = record { keeps = Kept; portion = to-first }
 
--- the budgets added up
-abbrev pub budgets-sum : List ℕ → ℕ
-budgets-sum = sum (λ budget. budget)
-
 -- a vertex that is the entrance of a candidate
-abbrev pub Entrance : (Graph → ℕ → ℕ → Type 0) → Graph → ℕ → Type 0
+abbrev pub Entrance : CandidateSet → Graph → ℕ → Type 0
 Entrance C E s = (t : ℕ) × C E s t
 
 -- one folded superbubble: the inner vertices of the kept path, and the rest of the interior
@@ -52,7 +48,7 @@ pub record Item : Type 0 where
 abbrev pub Stays : Graph → ℕ → ℕ → List ℕ → ℕ → ℕ → Type 0
 Stays E s t arm u v = F E s t u → F E s t v → Follows (s ∷ arm ++ (t ∷ [])) u v
 
-module _ (C : Graph → ℕ → ℕ → Type 0) (R : Rule) where
+module _ (C : CandidateSet) (R : Rule) where
   -- the item is that of a candidate: its arm is kept, the rest of the interior is dropped
   pub record Fits (E : Graph) (c : Counts) (i : Item) : Type 0 where
     pub candidate : C E (i .entrance) (i .exit)
@@ -69,7 +65,8 @@ module _ (C : Graph → ℕ → ℕ → Type 0) (R : Rule) where
     -- every edge that does not have both its ends in one folded U stays
     pub edges : (u v : ℕ) → E′ u v ↔ (E u v × ((i : Item) → List·Memᴰ i items → Stays E (i .entrance) (i .exit) (i .arm) u v))
     -- the counts of the dropped vertices are added to the kept ones
-    pub added : (i : Item) → List·Memᴰ i items → (j : ℕ) → j < length (i .arm) → c′ (getD (i .arm) j 0) ≡ c (getD (i .arm) j 0) + R .portion (sum c (i .dropped)) (length (i .arm)) j
+    pub added : (i : Item) → List·Memᴰ i items → (j : ℕ) → j < length (i .arm)
+        → c′ (getD (i .arm) j 0) ≡ c (getD (i .arm) j 0) + R .portion (sum c (i .dropped)) (length (i .arm)) j
     -- a dropped vertex has count 0; that it has no edge follows
     pub emptied : (i : Item) → List·Memᴰ i items → (v : ℕ) → List·Memᴰ v (i .dropped) → c′ v ≡ 0
     -- a vertex interior to no folded superbubble keeps its count
@@ -86,3 +83,7 @@ module _ (C : Graph → ℕ → ℕ → Type 0) (R : Rule) where
     once : {E E′ : Graph} {c c′ : Counts} {budget folded left : ℕ} → Folded E c budget E′ c′ folded left → InTurn E c (budget ∷ []) E′ c′
     then : {E E′ E″ : Graph} {c c′ c″ : Counts} {budget folded left : ℕ} {budgets : List ℕ}
         → Folded E c budget E′ c′ folded left → InTurn E′ c′ budgets E″ c″ → InTurn E c (budget ∷ budgets) E″ c″
+
+-- the budgets added up
+abbrev pub budgets-sum : List ℕ → ℕ
+budgets-sum = sum (λ budget. budget)

@@ -5,7 +5,7 @@ use mathlib.Core.Path.{_≡_}
 use mathlib.Core.Logic.{_≢_, _↔_}
 use mathlib.Core.List.{List, [], List·Memᴰ}
 use Rattle.bubble.specs.Superbubble.{F, Interior, Reaches, Superbubble}
-use Rattle.rule.specs.Lists.{Graph, Counts, total}
+use Rattle.rule.specs.Lists.{Graph, CandidateSet, Counts, total}
 use Rattle.rule.specs.Kept.{Arm}
 use Rattle.rule.specs.Fold.{Rule, Stays}
 
@@ -17,10 +17,11 @@ pub record SameInside (E E′ : Graph) (s t : ℕ) : Type 0 where
 pub record RuleLaws (R : Rule) : Type 1 where
   -- what is kept is a path
   pub path : {E : Graph} {c : Counts} {s t : ℕ} {l : List ℕ} → Superbubble E s t → R .keeps E c s t l → Arm E s t l
-  -- one
+  -- and there is only one
   pub one : {E : Graph} {c : Counts} {s t : ℕ} {l k : List ℕ} → Superbubble E s t → R .keeps E c s t l → R .keeps E c s t k → l ≡ k
   -- the rule looks only at U's edges and the interior counts
-  pub local : {E E′ : Graph} {c c′ : Counts} {s t : ℕ} {l : List ℕ} → Superbubble E s t → SameInside E E′ s t → ((v : ℕ) → Interior E s t v → c v ≡ c′ v) → R .keeps E c s t l → R .keeps E′ c′ s t l
+  pub local : {E E′ : Graph} {c c′ : Counts} {s t : ℕ} {l : List ℕ} → Superbubble E s t → SameInside E E′ s t
+      → ((v : ℕ) → Interior E s t v → c v ≡ c′ v) → R .keeps E c s t l → R .keeps E′ c′ s t l
   -- the bare edge is kept only if every interior count is 0
   pub bare : {E : Graph} {c : Counts} {s t : ℕ} → Superbubble E s t → R .keeps E c s t [] → (v : ℕ) → Interior E s t v → c v ≡ 0
   -- the portions of a dropped sum come to that sum
@@ -38,7 +39,7 @@ abbrev pub OneFolded : Graph → ℕ → ℕ → List ℕ → Graph → Type 0
 OneFolded E s t l E′ = (u v : ℕ) → E′ u v ↔ (E u v × Stays E s t l u v)
 
 -- C says what the candidates of a graph are; the laws hold in the graphs with G
-pub record CandidateLaws (G : Graph → Type 0) (C : Graph → ℕ → ℕ → Type 0) : Type 1 where
+pub record CandidateLaws (G : Graph → Type 0) (C : CandidateSet) : Type 1 where
   -- a graph with fewer edges is of the same kind
   pub fewer : {E E′ : Graph} → ((u v : ℕ) → E′ u v → E u v) → G E → G E′
   -- only which edges there are counts

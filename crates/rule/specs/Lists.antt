@@ -1,4 +1,4 @@
--- Lists of vertices, as the fold rule speaks of them: listings, sums of counts, and what follows what.
+-- What the fold rule speaks of: graphs and counts, listings, sums, and what follows what on a list.
 -- Assumes nothing.
 use Prim.Native.Nat.{ℕ, zero, suc, _+_, _<_}
 use mathlib.Core.Logic.{_↔_}
@@ -7,6 +7,10 @@ use mathlib.Core.List.{List, [], _∷_, List·Memᴰ}
 -- a graph: E u v says that there is an edge from u to v
 abbrev pub Graph : Type 1
 Graph = ℕ → ℕ → Type 0
+
+-- which pairs of entrance and exit are the candidates of a graph
+abbrev pub CandidateSet : Type 1
+CandidateSet = Graph → ℕ → ℕ → Type 0
 
 -- the reads on each vertex
 abbrev pub Counts : Type 0

@@ -5,7 +5,7 @@ use mathlib.Core.Path.{_≡_}
 use mathlib.Core.List.{List, [], _∷_}
 use lib.ListN.{length, getD}
 use Rattle.table.specs.Table.{Edge, WellFormed}
-use Rattle.rule.specs.Lists.{Graph}
+use Rattle.rule.specs.Lists.{Graph, CandidateSet}
 use Rattle.rule.specs.Fold.{Rule, Folded}
 
 -- the count of each vertex
@@ -18,7 +18,7 @@ pub record SameSize (starts counts starts′ targets′ counts′ : List ℕ) : 
   pub as-many-vertices : length starts′ ≡ length starts
   pub as-many-counts : length counts′ ≡ length counts
 
-module _ (C : Graph → ℕ → ℕ → Type 0) (R : Rule) where
+module _ (C : CandidateSet) (R : Rule) where
   -- the second table and its counts are the first ones folded
   pub record TableFolded (starts targets counts : List ℕ) (budget : ℕ) (starts′ targets′ counts′ : List ℕ) (folded left : ℕ) : Type 0 where
     pub same-size : SameSize starts counts starts′ targets′ counts′
