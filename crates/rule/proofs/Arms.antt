@@ -1,14 +1,14 @@
 -- A path from entrance to exit inside U is a thread: folding one superbubble is what Thread asks for.
 -- Assumes nothing.
 use Prim.Native.Nat.{ℕ}
-use mathlib.Core.Path.{_≡_, refl, sym}
+use mathlib.Core.Path.{_≡_, refl}
 use mathlib.Core.Logic.{⊎-elim}
-use mathlib.Core.List.{List, [], _∷_, _++_, List·Memᴰ, List·Memᴰ·head, List·Memᴰ·tail, List·Memᴰ·not-nil, List·Memᴰ·eq-of-singleton, List·Memᴰ·cases-cons, List·Memᴰ·append-cases, Memᴰ·append-left, Memᴰ·append-right}
+use mathlib.Core.List.{List, [], _∷_, _++_, List·Memᴰ, List·Memᴰ·head, List·Memᴰ·tail, List·Memᴰ·not-nil, List·Memᴰ·eq-of-singleton, List·Memᴰ·cases-cons, List·Memᴰ·append-cases}
 use Rattle.bubble.specs.Superbubble.{F, F.start, Walk, Walk.edge, Bubbloid, Superbubble, Reaches}
 use Rattle.bubble.proofs.Walks.{walk-before}
 use Rattle.bubble.proofs.Facts.{exit-inside}
 use Rattle.bubble.proofs.Pigeonhole.{Distinct, Distinct.empty, Distinct.fresh}
-use Rattle.rule.specs.Lists.{Graph, Follows, Follows.here, Follows.later}
+use Rattle.rule.specs.Lists.{Graph, Follows}
 use Rattle.rule.specs.Kept.{Via, Via.bare, Via.then, Arm}
 use Rattle.rule.specs.Laws.{OneFolded}
 use Rattle.rule.proofs.Thread.{Thread}

@@ -1,18 +1,18 @@
 -- A rule that keeps the best path meets the laws if its score does and its portions come to the whole; document 01's rule is one. A kept bare edge means that every interior count is 0.
 -- Assumes nothing.
-use Prim.Native.Nat.{ℕ, zero, suc, _+_, _≤_, _<_}
-use mathlib.Core.Path.{_≡_, refl, sym, _∙_}
+use Prim.Native.Nat.{ℕ, zero, suc, _≤_, _<_}
+use mathlib.Core.Path.{_≡_, sym, _∙_}
 use mathlib.Core.Logic.{inl, ⊎-map}
-use mathlib.Core.List.{List, [], _∷_, List·Memᴰ, List·Memᴰ·head, List·Memᴰ·tail}
+use mathlib.Core.List.{List, [], List·Memᴰ, List·Memᴰ·head, List·Memᴰ·tail}
 use native.Mathlib.Omega.{arith}
 use native.Mathlib.Decide.{decLt}
 use Rattle.bubble.specs.Superbubble.{Interior, Bubbloid, Superbubble}
 use Rattle.bubble.proofs.Facts.{exit-inside}
 use Rattle.rule.specs.Lists.{Graph, Counts, sum, total}
 use Rattle.rule.specs.Kept.{Arm, Beats, Best, Kept}
-use Rattle.rule.specs.Fold.{Rule, to-first, first-takes-all}
+use Rattle.rule.specs.Fold.{to-first, first-takes-all}
 use Rattle.rule.specs.Laws.{SameInside, RuleLaws, ScoreLaws}
-use Rattle.rule.proofs.Inside.{inside-back, interior-inside, arm-carried}
+use Rattle.rule.proofs.Inside.{inside-back, arm-carried}
 use Rattle.rule.proofs.Listings.{sum-same}
 use Rattle.rule.proofs.Choice.{best-one}
 use Rattle.rule.proofs.Through.{arm-through}

@@ -8,7 +8,6 @@ use Rattle.bubble.specs.Superbubble.{F, F.start, F.on, B, Reaches, Reaches.none
 use Rattle.bubble.proofs.Reversal.{F-reversed, reaches-reversed}
 use Rattle.bubble.proofs.Facts.{closed-backward, no-edge-to-entrance, no-edge-from-exit}
 use Rattle.rule.specs.Lists.{Graph}
-use Rattle.rule.proofs.Fewer.{F-fewer}
 use Rattle.rule.proofs.Thread.{Thread, thread-reversed, interior-reversed, Clear, clear-reversed}
 
 module _ {E E′ : Graph} {s t : ℕ} {N : Graph} (k : Thread E E′ s t N) where

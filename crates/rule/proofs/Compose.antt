@@ -1,12 +1,12 @@
 -- Budgets add: folding with one budget and then, on what is left, with another is folding once with the sum.
 -- Assumes nothing.
 use Prim.Native.Nat.{ℕ, _+_, _<_}
-use mathlib.Core.Path.{_≡_, refl, sym, _∙_, ap, ap₂}
+use mathlib.Core.Path.{_≡_, sym, _∙_, ap, ap₂}
 use mathlib.Core.Logic.{_≢_, _↔_, ⊎-elim}
-use mathlib.Core.List.{List, [], _∷_, _++_, map, map-append, List·Memᴰ, List·Memᴰ·append-cases, Memᴰ·append-left, Memᴰ·append-right, Memᴰ·map, Memᴰ·cast}
+use mathlib.Core.List.{_++_, map-append, List·Memᴰ, List·Memᴰ·append-cases, Memᴰ·append-left, Memᴰ·append-right, Memᴰ·map, Memᴰ·cast}
 use lib.ListN.{length, take, drop, getD}
 use lib.Seq.{take-add}
-use Rattle.bubble.specs.Superbubble.{F, Interior}
+use Rattle.bubble.specs.Superbubble.{Interior}
 use Rattle.rule.specs.Lists.{Graph, CandidateSet, Counts, sum}
 use Rattle.rule.specs.Fold.{Rule, Item, Fits, Applied}
 use Rattle.rule.specs.Laws.{SameInside, RuleLaws, CandidateLaws}

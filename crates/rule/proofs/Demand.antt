@@ -10,7 +10,7 @@ use Rattle.rule.specs.Lists.{Graph, CandidateSet, Counts, Listing, total
 use Rattle.rule.specs.Fold.{Rule, NoCycle, Candidate, Entrance, first-takes-all, Folded, InTurn, budgets-sum}
 use Rattle.rule.specs.Laws.{RuleLaws, CandidateLaws}
 use Rattle.rule.proofs.Coincide.{Same, applied-same}
-use Rattle.rule.proofs.Budgets.{in-turn-applied, applied-kind}
+use Rattle.rule.proofs.Budgets.{in-turn-applied}
 use Rattle.rule.proofs.Total.{total-kept}
 use Rattle.rule.proofs.Ends.{none-left, nothing-changes}
 use Rattle.rule.proofs.BestLaws.{first-takes-all-laws}

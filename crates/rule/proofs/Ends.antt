@@ -1,7 +1,7 @@
 -- Where a fold ends: with a budget of all candidates none is left, and a fold where there is none gives back its input.
 -- Assumes nothing.
 use Prim.Native.Nat.{ℕ, _≤_}
-use mathlib.Core.Path.{_≡_, sym}
+use mathlib.Core.Path.{_≡_}
 use mathlib.Core.List.{List, List·Memᴰ, List·Memᴰ·not-nil}
 use lib.ListN.{length, drop, drop-of-length-le}
 use Rattle.rule.specs.Lists.{Graph, CandidateSet, Counts, Listing}

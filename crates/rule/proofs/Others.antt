@@ -1,7 +1,7 @@
 -- A superbubble apart from a folded one is clear of it, and looks the same from inside after.
 -- Assumes nothing.
 use Prim.Native.Nat.{ℕ}
-use mathlib.Core.Path.{_≡_, refl, sym}
+use mathlib.Core.Path.{refl, sym}
 use mathlib.Core.Logic.{_≢_}
 use native.Mathlib.Decide.{ℕ-discrete}
 use Rattle.bubble.specs.Superbubble.{F, F.start, F.on, Superbubble, Interior}

@@ -3,17 +3,15 @@
 -- Assumes nothing.
 use Prim.Native.Nat.{ℕ}
 use mathlib.Core.Path.{_≡_, sym, _∙_}
-use mathlib.Core.Logic.{_≢_, _↔_, ⊎-elim}
-use mathlib.Core.List.{List}
+use mathlib.Core.Logic.{_≢_, ⊎-elim}
 use native.Mathlib.Decide.{ℕ-discrete}
 use Rattle.bubble.specs.Superbubble.{F, F.start, Reaches, Interior, Superbubble}
 use Rattle.bubble.proofs.Reversal.{inside-reversed}
 use Rattle.bubble.proofs.Facts.{no-edge-from-exit}
 use Rattle.bubble.proofs.Unique.{superbubble-reversed, exit-unique, entrance-unique}
 use Rattle.bubble.proofs.Nesting.{Nested, nest, meets-nested}
-use Rattle.rule.specs.Lists.{Graph, Follows}
-use Rattle.rule.specs.Kept.{Arm}
-use Rattle.rule.specs.Laws.{OneFolded, CandidateLaws}
+use Rattle.rule.specs.Lists.{Graph}
+use Rattle.rule.specs.Laws.{CandidateLaws}
 use Rattle.rule.proofs.Fewer.{F-fewer, reaches-fewer, interior-also}
 use Rattle.rule.proofs.Thread.{Thread, interior-reversed, Clear}
 use Rattle.rule.proofs.Carry.{bubbloid-of, fewer, carried, carried-outside}

@@ -1,9 +1,8 @@
 -- What a fold leaves: the candidates of the new graph are those after the folded ones, and each looks the same from inside, with the same counts.
 -- Assumes nothing.
-use Prim.Native.Nat.{ℕ, _+_, _<_, min}
+use Prim.Native.Nat.{ℕ, min}
 use mathlib.Core.Path.{_≡_, sym, _∙_, ap}
-use mathlib.Core.Logic.{_≢_}
-use mathlib.Core.List.{List, List·Memᴰ, Memᴰ·map, Memᴰ·cast}
+use mathlib.Core.List.{List·Memᴰ, Memᴰ·map, Memᴰ·cast}
 use lib.ListN.{length, take, drop, length-map, length-take}
 use Rattle.bubble.specs.Superbubble.{Interior}
 use Rattle.bubble.proofs.Pigeonhole.{Distinct}

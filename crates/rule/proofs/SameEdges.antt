@@ -2,7 +2,7 @@
 -- Assumes nothing.
 use Prim.Native.Nat.{ℕ}
 use mathlib.Core.Logic.{_↔_}
-use Rattle.bubble.specs.Superbubble.{F, B, Interior, Bubbloid, Superbubble}
+use Rattle.bubble.specs.Superbubble.{Interior, Bubbloid, Superbubble}
 use Rattle.rule.specs.Lists.{Graph}
 use Rattle.rule.proofs.Fewer.{F-fewer, B-fewer, reaches-fewer, walk-fewer, interior-also}
 

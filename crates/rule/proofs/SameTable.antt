@@ -1,12 +1,12 @@
 -- Tables and graphs: well-formed tables with as many vertices, the same edges and the same counts are the same, and the sum of the counts is the total over all vertices.
 -- Assumes nothing.
-use Prim.Native.Nat.{ℕ, zero, suc, _+_, _-_, _≤_, _<_}
+use Prim.Native.Nat.{ℕ, zero, suc, _+_, _-_, _<_}
 use mathlib.Core.Path.{_≡_, refl, sym, _∙_, ap, ap₂}
 use mathlib.Core.Logic.{_↔_, ⊎-elim}
 use mathlib.Core.List.{List, [], _∷_, _++_, List·Memᴰ, List·Memᴰ·not-nil, List·Memᴰ·cases-cons, Memᴰ·cast}
 use native.Mathlib.Numerals.{add-one}
 use native.Mathlib.Omega.{arith}
-use lib.ListN.{length, take, drop, getD, length-take, length-drop}
+use lib.ListN.{length, take, getD, length-take, length-drop}
 use lib.Seq.{take-add, take-length, ext-getD}
 use Rattle.table.specs.Table.{vertices, row, In, Edge, Rises, WellFormed, countSum}
 use Rattle.table.proofs.RowLaws.{row-lies}

@@ -2,7 +2,7 @@
 -- Assumes nothing.
 use Prim.Native.Nat.{ℕ}
 use mathlib.Core.Path.{_≡_, refl, sym, _∙_}
-use mathlib.Core.Logic.{_≢_, _↔_, _⊎_, inl, inr, ⊎-elim, ⊎-map}
+use mathlib.Core.Logic.{_≢_, _⊎_, inl, inr, ⊎-elim, ⊎-map}
 use native.Mathlib.Decide.{ℕ-discrete}
 use Rattle.bubble.specs.Superbubble.{F, F.start, F.on, B, B.end, B.from, Walk, Walk.edge, Walk.more, Reaches, Reaches.none, Reaches.then, Bubbloid, Interior}
 use Rattle.bubble.proofs.Walks.{walk-append, walk-end, F-reaches}
@@ -73,12 +73,8 @@ module _ {E E′ : Graph} {s t x y : ℕ} {N : Graph} (k : Thread E E′ s t N) 
           elim (ℕ-discrete u s) [
             | yes r ↦ edge f′ (rw r at (stays k m)) g′
             | no l ↦
-                let i : Interior E s t u = record {
-                  inside = k .tail-inside m;
-                  not-entrance = l;
-                  not-exit = λ r. no-edge-from-exit (bubbloid-of k)
-                      (k .head-inside m) (rw r at (k .joined m));
-                } in
+                let before-exit : u ≢ t = λ r. no-edge-from-exit (bubbloid-of k) (k .head-inside m) (rw r at (k .joined m)) in
+                let i : Interior E s t u = record { inside = k .tail-inside m; not-entrance = l; not-exit = before-exit } in
                 let h : F E x y u = F-fewer (fewer k) (c .matching u .1 (from (stays k m) n (c .matching t .0 g′))) in
                 ⊎-elim (λ a. absurd (a .1 i)) (λ a. absurd (a .1 .1 q)) (carried k o h)
           ]
@@ -107,13 +103,14 @@ module _ {E E′ : Graph} {s t x y : ℕ} {N : Graph} (k : Thread E E′ s t N) 
       through r =
           elim (ℕ-discrete u s) [
             | yes q ↦ pass-bare (rw q at f) (rw r at g) (rw (q, r) at e)
-            | no n ↦ ⊎-elim (λ h. absurd
-                (no-edge-inside k (h .1) n e (closed-backward (bubbloid-of k) (at-exit r) (λ q. bubbloid-of k .distinct (sym q ∙ r)) e)
-                (at-exit r))) (λ h. pass (h .1 .0) (h .1 .1)) (carried k o f)
+            | no n ↦ ⊎-elim (λ h. absurd (no-edge-inside k (h .1) n e (parent-inside r) (at-exit r))) (λ h. pass (h .1 .0) (h .1 .1)) (carried k o f)
           ]
         where
           at-exit : v ≡ t → F E s t v
           at-exit r = rw r (exit-inside (bubbloid-of k))
+
+          parent-inside : v ≡ t → F E s t u
+          parent-inside r = closed-backward (bubbloid-of k) (at-exit r) (λ q. bubbloid-of k .distinct (sym q ∙ r)) e
 
   -- a walk before, from a vertex that is not interior
   walked : {a v : ℕ} → (Interior E s t a → ⊥) → Walk E (F E x y) a v → Met k (Walk E′ (F E′ x y) a) (Led a s) v
@@ -159,12 +156,12 @@ module _ {E E′ : Graph} {s t x y : ℕ} {N : Graph} (k : Thread E E′ s t N) 
 
   pub bubbloid-after : Bubbloid E x y → Bubbloid E′ x y
   bubbloid-after b =
-      let back : (v : ℕ) → B E′ x y v → F E′ x y v = λ v g. B-reversed .0
-      (match-after turned clear (λ u f. B-reversed .1 (b .matching u .1 (F-reversed .0 f))) v (F-reversed .1 g)) in
+      let back : (v : ℕ) → B E′ x y v → F E′ x y v =
+      λ v g. B-reversed .0 (match-after turned clear (λ u f. B-reversed .1 (b .matching u .1 (F-reversed .0 f))) v (F-reversed .1 g)) in
       make (b .distinct) (match-after k o (λ v. b .matching v .0)) back (λ v w. b .acyclicity v (walk-fewer (fewer k) (λ u. F-fewer (fewer k)) w))
 
   pub bubbloid-before : Bubbloid E′ x y → Bubbloid E x y
   bubbloid-before b =
-      let back : (v : ℕ) → B E x y v → F E x y v = λ v g. B-reversed .0
-      (match-before turned clear (λ u f. B-reversed .1 (b .matching u .1 (F-reversed .0 f))) v (F-reversed .1 g)) in
+      let back : (v : ℕ) → B E x y v → F E x y v =
+      λ v g. B-reversed .0 (match-before turned clear (λ u f. B-reversed .1 (b .matching u .1 (F-reversed .0 f))) v (F-reversed .1 g)) in
       make (b .distinct) (match-before k o (λ v. b .matching v .0)) back (no-cycle k o b)

@@ -5,7 +5,7 @@ use mathlib.Core.Path.{_≡_}
 use mathlib.Core.List.{List, [], _∷_}
 use lib.ListN.{length, getD}
 use Rattle.table.specs.Table.{Edge, WellFormed}
-use Rattle.rule.specs.Lists.{Graph, CandidateSet}
+use Rattle.rule.specs.Lists.{CandidateSet}
 use Rattle.rule.specs.Fold.{Rule, Folded}
 
 -- the count of each vertex
