@@ -3,7 +3,7 @@
 use Prim.Native.Nat.{ℕ}
 use mathlib.Core.Path.{_≡_, refl}
 use mathlib.Core.Logic.{⊎-elim}
-use mathlib.Core.List.{List, [], _∷_, _++_, List·Memᴰ, List·Memᴰ·head, List·Memᴰ·tail, List·Memᴰ·not-nil, List·Memᴰ·eq-of-singleton, List·Memᴰ·cases-cons, List·Memᴰ·append-cases}
+use mathlib.Core.List.{List, [], _∷_, _++_, List·Memᴰ, List·Memᴰ·head, List·Memᴰ·tail, List·Memᴰ·not-nil, List·Memᴰ·eq-of-singleton, List·Memᴰ·cases-cons, List·Memᴰ·append-cases, Memᴰ·append-left}
 use Rattle.bubble.specs.Superbubble.{F, F.start, Walk, Walk.edge, Bubbloid, Superbubble, Reaches}
 use Rattle.bubble.proofs.Walks.{walk-before}
 use Rattle.bubble.proofs.Facts.{exit-inside}
@@ -43,6 +43,17 @@ arm-inside {t = t} {l = l} f a v m = ⊎-elim (λ i. a .inner v i .inside) (λ i
 
 pub arm-distinct : {E : Graph} {s t : ℕ} {l : List ℕ} → Bubbloid E s t → Arm E s t l → Distinct (s ∷ l ++ (t ∷ []))
 arm-distinct b a = via-distinct (b .acyclicity) start (arm-inside (exit-inside b) a) (a .path)
+
+distinct-front : (l k : List ℕ) → Distinct (l ++ k) → Distinct l
+distinct-front [] k d = empty
+distinct-front (x ∷ l) k (fresh n d) = fresh (λ m. n (Memᴰ·append-left k m)) (distinct-front l k d)
+
+-- so do its inner vertices
+pub inner-distinct : {E : Graph} {s t : ℕ} (l : List ℕ) → Superbubble E s t → Arm E s t l → Distinct l
+inner-distinct {t = t} l p a = go (arm-distinct (p .bubbloid) a)
+  where
+    go : {s : ℕ} → Distinct (s ∷ l ++ (t ∷ [])) → Distinct l
+    go (fresh n d) = distinct-front l (t ∷ []) d
 
 pub arm-thread : {E E′ : Graph} {s t : ℕ} {l : List ℕ} → Superbubble E s t → (E s t → Reaches E t s → ⊥) → Arm E s t l → OneFolded E s t l E′
     → Thread E E′ s t (Follows (s ∷ l ++ (t ∷ [])))

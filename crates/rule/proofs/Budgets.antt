@@ -5,7 +5,7 @@ use mathlib.Core.Path.{refl}
 use mathlib.Core.List.{List}
 use native.Mathlib.Nat.{add-zero}
 use lib.ListN.{length, drop}
-use Rattle.rule.specs.Lists.{Graph, CandidateSet, Counts, sum}
+use Rattle.rule.specs.Lists.{Graph, CandidateSet, Counts}
 use Rattle.rule.specs.Fold.{Rule, Applied, Folded, InTurn, InTurn.once, InTurn.then, budgets-sum}
 use Rattle.rule.specs.Laws.{RuleLaws, CandidateLaws}
 use Rattle.rule.proofs.Remaining.{remaining-listed}

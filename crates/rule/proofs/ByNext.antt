@@ -52,6 +52,18 @@ pub passed-all : {next : ℕ → ℕ} {t s v : ℕ} {l : List ℕ} → Passed ne
 passed-all begun q = last q
 passed-all (further p m) q = passed-on p m (last q)
 
+-- no path from v to t has more than k edges
+abbrev pub Short : Graph → ℕ → ℕ → ℕ → Type 0
+Short E t zero v = ⊥
+Short E t (suc k) v = (u : ℕ) → E v u → u ≢ t → Short E t k u
+
+-- so it is in a set U where each edge, but from t, leads to a later place of U, and no place is after m
+pub short-by-place : {E : Graph} {U : ℕ → Type 0} {t v : ℕ} (place : ℕ → ℕ) (m k : ℕ) → ((x : ℕ) → U x → place x ≤ m)
+    → ((x y : ℕ) → U x → x ≢ t → E x y → U y × (place x < place y))
+    → U v → v ≢ t → m < place v + k → Short E t k v
+short-by-place {v = v} place m zero b h p n g = let low = b v p in omega arith
+short-by-place {v = v} place m (suc k) b h p n g = λ u e q. let (r, rise) = h v u p n e in short-by-place place m k b h r q (omega arith)
+
 earlier-cases : {x y : ℕ} {l k : List ℕ} → Earlier (x ∷ l) (y ∷ k) → (x < y) ⊎ ((x ≡ y) × Earlier l k)
 earlier-cases (here h) = inl h
 earlier-cases (later e) = inr (refl, e)
@@ -109,7 +121,8 @@ module _ {E : Graph} {c : Counts} {s t : ℕ} {best next : ℕ → ℕ} (b : Bub
       let inner = i x (List·Memᴰ·head refl) in
       let (value, rest) = first-worth f n e p i q in
       let r′ : x ≡ next v → ByNext next t x l = λ h. rw h r in
-      ⊎-elim (λ h. omega (arith, settled v f n .smallest x e value)) (λ h. none-earlier (inner .inside) (inner .not-exit) p (λ w j. i w (List·Memᴰ·tail j)) rest (r′ (h .0)) (h .1))
+      ⊎-elim (λ h. omega (arith, settled v f n .smallest x e value))
+      (λ h. none-earlier (inner .inside) (inner .not-exit) p (λ w j. i w (List·Memᴰ·tail j)) rest (r′ (h .0)) (h .1))
       (earlier-cases o)
 
   pub by-next-kept : {l : List ℕ} → ByNext next t s l → Kept E c s t l
@@ -119,19 +132,16 @@ module _ {E : Graph} {c : Counts} {s t : ℕ} {best next : ℕ → ℕ} (b : Bub
       record {
         arm = record { path = by-next-path start n r; inner = λ v. by-next-inner start n r };
         unbeaten = λ k a.
-            ⊎-elim (λ h. omega (arith, h, best-sum, sum-bounded start n (a .path) (a .inner))) (λ h. none-earlier start n (a .path) (a .inner) (h .0 ∙ best-sum) r (h .1));
+            ⊎-elim (λ h. omega (arith, h, best-sum, sum-bounded start n (a .path) (a .inner)))
+            (λ h. none-earlier start n (a .path) (a .inner) (h .0 ∙ best-sum) r (h .1));
       }
 
-  -- the path ends where each edge of U leads to a later place, and no place is after m
-  pub by-next-ends : (place : ℕ → ℕ) (m : ℕ) → ((u v : ℕ) → F E s t u → F E s t v → E u v → (place u < place v) × (place v ≤ m)) → (l : List ℕ) × ByNext next t s l
-  by-next-ends place m h = go (suc m) start (b .distinct) (omega arith)
-    where
-      go : {v : ℕ} (k : ℕ) → F E s t v → v ≢ t → m < place v + k → (l : List ℕ) × ByNext next t v l
-      go {v} zero f n g = let e = settled v f n .child in let (x, y) = h v (next v) f (on f n e) e in absurd (omega arith)
-      go {v} (suc k) f n g =
-          let e = settled v f n .child in
-          let (x, y) = h v (next v) f (on f n e) e in
-          elim (ℕ-discrete (next v) t) [
-            | yes q ↦ ([], last q)
-            | no i ↦ let (l, r) = go k (on f n e) i (omega arith) in (next v ∷ l, step i r)
-          ]
+  -- so the path by next ends
+  pub by-next-ends : {v : ℕ} (k : ℕ) → F E s t v → v ≢ t → Short E t k v → (l : List ℕ) × ByNext next t v l
+  by-next-ends zero f n h = absurd h
+  by-next-ends {v} (suc k) f n h =
+      let e = settled v f n .child in
+      elim (ℕ-discrete (next v) t) [
+        | yes q ↦ ([], last q)
+        | no m ↦ let (l, r) = by-next-ends k (on f n e) m (h (next v) e m) in (next v ∷ l, step m r)
+      ]

@@ -2,16 +2,16 @@
 -- Assumes nothing.
 use Prim.Native.Nat.{ℕ}
 use mathlib.Core.Path.{_≡_, refl, sym, _∙_, ap, ap₂}
-use mathlib.Core.Logic.{_↔_, ⊎-elim}
-use mathlib.Core.List.{List, [], _∷_, map, List·Memᴰ, List·Memᴰ·head, List·Memᴰ·tail, List·Memᴰ·not-nil, List·Memᴰ·cases-cons}
+use mathlib.Core.Logic.{_↔_}
+use mathlib.Core.List.{List, [], _∷_, map, List·Memᴰ, List·Memᴰ·head, List·Memᴰ·tail}
 use native.Mathlib.Omega.{arith}
 use lib.ListN.{length, take}
 use Rattle.bubble.specs.Superbubble.{Interior}
 use Rattle.bubble.proofs.Unique.{exit-unique}
-use Rattle.bubble.proofs.Reflect.{decided, decides-member}
 use Rattle.rule.specs.Lists.{Graph, CandidateSet, Counts, Listing}
 use Rattle.rule.specs.Fold.{Rule, Item, Entrance, Fits, Applied, Folded}
 use Rattle.rule.specs.Laws.{RuleLaws, CandidateLaws}
+use Rattle.rule.proofs.WhereIs.{Where, Where.on-arm, Where.is-dropped, Where.neither, where-is}
 use Rattle.rule.proofs.Listings.{listing-unique, listing-same, place-of}
 
 -- the same edges and the same counts
@@ -30,25 +30,6 @@ map-injective {A} f (x ∷ l) (y ∷ k) h q =
     let first : x ≡ y = h x y (List·Memᴰ·head refl) (List·Memᴰ·head refl) p in
     let rest : l ≡ k = map-injective f l k (λ a b i j. h a b (List·Memᴰ·tail i) (List·Memᴰ·tail j)) r in
     ap₂ {C = List A} (λ a b. a ∷ b) first rest
-
--- v is on an arm, or dropped, or neither
-data Where (v : ℕ) (items : List Item) : Type 0 where
-  on-arm : (i : Item) → List·Memᴰ i items → List·Memᴰ v (i .arm) → Where v items
-  is-dropped : (i : Item) → List·Memᴰ i items → List·Memᴰ v (i .dropped) → Where v items
-  neither : ((i : Item) → List·Memᴰ i items → (List·Memᴰ v (i .arm) → ⊥) × (List·Memᴰ v (i .dropped) → ⊥)) → Where v items
-
-where-is : (v : ℕ) (items : List Item) → Where v items
-where-is v [] = neither (λ i m. absurd (List·Memᴰ·not-nil m))
-where-is v (i ∷ items) =
-    elim (decided (decides-member v (i .arm))) [
-      | yes m ↦ on-arm i (List·Memᴰ·head refl) m
-      | no n ↦ elim (decided (decides-member v (i .dropped))) [ yes m ↦ is-dropped i (List·Memᴰ·head refl) m | no k ↦ widen n k (where-is v items) ]
-    ]
-  where
-    widen : (List·Memᴰ v (i .arm) → ⊥) → (List·Memᴰ v (i .dropped) → ⊥) → Where v items → Where v (i ∷ items)
-    widen n k (on-arm j m h) = on-arm j (List·Memᴰ·tail m) h
-    widen n k (is-dropped j m h) = is-dropped j (List·Memᴰ·tail m) h
-    widen n k (neither h) = neither (λ j m. ⊎-elim (λ q. rw q (n, k)) (h j) (List·Memᴰ·cases-cons m))
 
 module _ {G : Graph → Type 0} {C : CandidateSet} {R : Rule} (L : CandidateLaws G C) (M : RuleLaws R) where
   pub item-unique : {E : Graph} {c : Counts} {i j : Item} → Fits C R E c i → Fits C R E c j → i .entrance ≡ j .entrance → i ≡ j

@@ -46,7 +46,8 @@ module _ {G : Graph → Type 0} {C : CandidateSet} {R : Rule} (L : CandidateLaws
 
   first-both : entrances (one .items ++ two .items) ≡ take (b₁ + b₂) (one .candidates)
   first-both =
-      let rest : entrances (two .items) ≡ take b₂ (drop b₁ (one .candidates)) = two .first ∙ ap (take b₂) (listing-unique (two .listed) (remaining-listed L M g one)) in
+      let rest : entrances (two .items) ≡ take b₂ (drop b₁ (one .candidates)) =
+      two .first ∙ ap (take b₂) (listing-unique (two .listed) (remaining-listed L M g one)) in
       map-append (λ (i : Item). i .entrance) (one .items) (two .items) ∙ ap₂ _++_ (one .first) rest ∙ sym (take-add b₁ b₂ (one .candidates))
 
   edges-both : (u v : ℕ) → E₂ u v ↔ Staying E (one .items ++ two .items) u v
@@ -64,7 +65,8 @@ module _ {G : Graph → Type 0} {C : CandidateSet} {R : Rule} (L : CandidateLaws
           two .edges u v .1 (first, λ i m f h. r .1 i (Memᴰ·append-right (one .items) m) (same-inside i m .set u .1 f) (same-inside i m .set v .1 h))
 
   -- what the first fold adds and empties, the second leaves alone
-  added-sooner : (i : Item) → List·Memᴰ i (one .items) → (j : ℕ) → j < length (i .arm) → c₂ (getD (i .arm) j 0) ≡ c (getD (i .arm) j 0) + R .portion (sum c (i .dropped)) (length (i .arm)) j
+  added-sooner : (i : Item) → List·Memᴰ i (one .items) → (j : ℕ) → j < length (i .arm)
+      → c₂ (getD (i .arm) j 0) ≡ c (getD (i .arm) j 0) + R .portion (sum c (i .dropped)) (length (i .arm)) j
   added-sooner i m j h = let v = getD (i .arm) j 0 in left-alone i m v (item-arm L M g one i m .inner v (getD-in (i .arm) j h)) ∙ one .added i m j h
 
   emptied-sooner : (i : Item) → List·Memᴰ i (one .items) → (v : ℕ) → List·Memᴰ v (i .dropped) → c₂ v ≡ 0

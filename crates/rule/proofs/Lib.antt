@@ -14,6 +14,7 @@ pub mod Listings
 pub mod Remaining
 pub mod Compose
 pub mod Budgets
+pub mod WhereIs
 pub mod Coincide
 pub mod Sums
 pub mod Total
@@ -29,5 +30,9 @@ pub mod Candidates
 pub mod Outermost
 pub mod Demand
 pub mod ByNext
+pub mod Pick
+pub mod KeptExists
+pub mod CandidatesListed
+pub mod FoldExists
 pub mod SameTable
 pub mod TableDemand

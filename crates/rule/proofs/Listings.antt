@@ -23,7 +23,8 @@ rising-unique (first {v = x} {l = l} h r) (first {v = y} {l = k} i s) f g = ap�
   where
     same : x ≡ y
     same =
-        let other : List·Memᴰ x k → x ≡ y = λ m. ⊎-elim (λ q. sym q) (λ n. let a = i x m in let b = h y n in omega arith) (List·Memᴰ·cases-cons (g y (List·Memᴰ·head refl))) in
+        let other : List·Memᴰ x k → x ≡ y =
+        λ m. ⊎-elim (λ q. sym q) (λ n. let a = i x m in let b = h y n in omega arith) (List·Memᴰ·cases-cons (g y (List·Memᴰ·head refl))) in
         ⊎-elim (λ q. q) other (List·Memᴰ·cases-cons (f x (List·Memᴰ·head refl)))
 
     to : (v : ℕ) → List·Memᴰ v l → List·Memᴰ v k

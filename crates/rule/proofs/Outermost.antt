@@ -20,7 +20,8 @@ outermost-by-entrance {s = s} = (
 )
 
 module _ {E : Graph} {n : ℕ} (below : Below E n) (none : (s t : ℕ) → Candidate E s t → ⊥) where
-  within : {s t x y : ℕ} {l : List ℕ} → Superbubble E x y → Nested E s t x y → ((v : ℕ) → List·Memᴰ v l → (v < n) × F E s t v) → (v : ℕ) → List·Memᴰ v (x ∷ l) → (v < n) × F E x y v
+  within : {s t x y : ℕ} {l : List ℕ} → Superbubble E x y → Nested E s t x y → ((v : ℕ) → List·Memᴰ v l → (v < n) × F E s t v) → (v : ℕ)
+      → List·Memᴰ v (x ∷ l) → (v < n) × F E x y v
   within q m f v i = ⊎-elim (λ e. rw e (entrance-below below (q .bubbloid), start)) (λ o. (f v o .0, m v (f v o .1) .inside)) (List·Memᴰ·cases-cons i)
 
   -- l holds the entrances met on the way out, all in U; k more may follow

@@ -65,8 +65,8 @@ module _ {starts targets counts budgets starts′ targets′ counts′ : List �
   pub count-sum-stays : countSum counts′ ≡ countSum counts
   count-sum-stays =
       let below = edges-below (table .well-formed) in
-      let moved : total (count-of counts′) (length counts) ≡ total (count-of counts) (length counts) = rw (table .count-each)
-      (total-stays candidate-laws first-takes-all-laws acyclic (graphs-in-turn turns) (vertices starts) below) in
+      let moved : total (count-of counts′) (length counts) ≡ total (count-of counts) (length counts) =
+      rw (table .count-each) (total-stays candidate-laws first-takes-all-laws acyclic (graphs-in-turn turns) (vertices starts) below) in
       sym (total-of-counts counts′) ∙ rw (turns-size turns .as-many-counts) (moved ∙ total-of-counts counts)
 
   -- Once the budgets reach the number of outermost superbubbles with an interior of the first table, no superbubble with an interior is left,

@@ -6,7 +6,7 @@ use mathlib.Core.Logic.{⊎-elim}
 use mathlib.Core.List.{List, [], _∷_, _++_, List·Memᴰ, List·Memᴰ·head, List·Memᴰ·tail, List·Memᴰ·not-nil, List·Memᴰ·append-cases, Memᴰ·append-left, Memᴰ·append-right, Memᴰ·map, Memᴰ·cast}
 use native.Mathlib.Omega.{arith}
 use lib.ListN.{length}
-use Rattle.bubble.specs.Superbubble.{Interior, Superbubble}
+use Rattle.bubble.specs.Superbubble.{Interior}
 use Rattle.bubble.proofs.Facts.{predecessor}
 use Rattle.bubble.proofs.Pigeonhole.{Distinct, Distinct.empty, Distinct.fresh, distinct-append}
 use Rattle.bubble.proofs.Number.{Below}
@@ -15,7 +15,7 @@ use Rattle.rule.specs.Lists.{Graph, CandidateSet, Counts, sum, total}
 use Rattle.rule.specs.Kept.{Arm}
 use Rattle.rule.specs.Fold.{Rule, Item, Fits, Applied}
 use Rattle.rule.specs.Laws.{RuleLaws, CandidateLaws}
-use Rattle.rule.proofs.Arms.{arm-distinct}
+use Rattle.rule.proofs.Arms.{inner-distinct}
 use Rattle.rule.proofs.Together.{entrances}
 use Rattle.rule.proofs.Listings.{rising-distinct}
 use Rattle.rule.proofs.Remaining.{items-differ}
@@ -36,17 +36,6 @@ unfolding touched
 of-touched [] m = absurd (List·Memᴰ·not-nil m)
 of-touched (j ∷ items) m =
     ⊎-elim (λ h. (j, List·Memᴰ·head refl, h)) (λ k. let (i, n, h) = of-touched items k in (i, List·Memᴰ·tail n, h)) (List·Memᴰ·append-cases (j .arm ++ j .dropped) m)
-
-distinct-front : (l k : List ℕ) → Distinct (l ++ k) → Distinct l
-distinct-front [] k d = empty
-distinct-front (x ∷ l) k (fresh n d) = fresh (λ m. n (Memᴰ·append-left k m)) (distinct-front l k d)
-
--- the inner vertices of a path differ
-inner-distinct : {E : Graph} {s t : ℕ} (l : List ℕ) → Superbubble E s t → Arm E s t l → Distinct l
-inner-distinct {t = t} l p a = go (arm-distinct (p .bubbloid) a)
-  where
-    go : {s : ℕ} → Distinct (s ∷ l ++ (t ∷ [])) → Distinct l
-    go (fresh n d) = distinct-front l (t ∷ []) d
 
 module _ {G : Graph → Type 0} {C : CandidateSet} {R : Rule} (L : CandidateLaws G C) (M : RuleLaws R) {E : Graph} {c : Counts} where
   -- arm and dropped are the interior
