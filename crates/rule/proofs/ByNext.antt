@@ -2,7 +2,7 @@
 -- Assumes nothing.
 use Prim.Native.Nat.{ℕ, zero, suc, _+_, _≤_, _<_}
 use mathlib.Core.Path.{_≡_, refl, sym, _∙_}
-use mathlib.Core.Logic.{_≢_, _⊎_, inl, inr, ⊎-elim, ite, if-pos, if-neg}
+use mathlib.Core.Logic.{_≢_, _↔_, _⊎_, inl, inr, ⊎-elim, ite, if-pos, if-neg}
 use mathlib.Core.List.{List, [], _∷_, _++_, List·Memᴰ, List·Memᴰ·head, List·Memᴰ·tail, List·Memᴰ·not-nil, List·Memᴰ·cases-cons}
 use native.Mathlib.Nat.{lt-irrefl}
 use native.Mathlib.Omega.{arith}
@@ -13,6 +13,7 @@ use Rattle.bubble.specs.Superbubble.{F, F.start, F.on, Bubbloid, Interior}
 use Rattle.bubble.proofs.Facts.{no-edge-to-entrance}
 use Rattle.rule.specs.Lists.{Graph, Counts, sum}
 use Rattle.rule.specs.Kept.{Via, Via.bare, Via.then, Earlier, Earlier.here, Earlier.later, Kept}
+use Rattle.rule.proofs.Pick.{Picked}
 
 -- what a path gains that goes on to u: nothing at the exit, and else the count of u and the best sum from u
 unfoldable pub worth : Counts → ℕ → (ℕ → ℕ) → ℕ → ℕ
@@ -32,6 +33,16 @@ pub record Settled (E : Graph) (c : Counts) (t : ℕ) (best next : ℕ → ℕ) 
   pub reached : worth c t best (next v) ≡ best v
   pub largest : (u : ℕ) → E v u → worth c t best u ≤ best v
   pub smallest : (u : ℕ) → E v u → worth c t best u ≡ best v → next v ≤ u
+
+-- so it is where next v is picked among the children
+pub picked-settled : {E : Graph} {c : Counts} {t : ℕ} {best next : ℕ → ℕ} {v : ℕ} {P : ℕ → Type 0} → ((u : ℕ) → P u ↔ E v u)
+    → Picked (worth c t best) P (next v) → worth c t best (next v) ≡ best v → Settled E c t best next v
+picked-settled {next = next} {v = v} h p q = record {
+  child = h (next v) .0 (p .among);
+  reached = q;
+  largest = λ u e. rw (← q) (p .largest u (h u .1 e));
+  smallest = λ u e r. p .smallest u (h u .1 e) (r ∙ sym q);
+}
 
 -- the inner vertices of the path by next from v to t
 pub data ByNext (next : ℕ → ℕ) (t : ℕ) : ℕ → List ℕ → Type 0 where

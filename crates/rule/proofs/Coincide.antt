@@ -7,10 +7,10 @@ use mathlib.Core.List.{List, [], _∷_, map, List·Memᴰ, List·Memᴰ·head, L
 use native.Mathlib.Omega.{arith}
 use lib.ListN.{length, take}
 use Rattle.bubble.specs.Superbubble.{Interior}
-use Rattle.bubble.proofs.Unique.{exit-unique}
 use Rattle.rule.specs.Lists.{Graph, CandidateSet, Counts, Listing}
-use Rattle.rule.specs.Fold.{Rule, Item, Entrance, Fits, Applied, Folded}
+use Rattle.rule.specs.Fold.{Rule, Item, Entrance, Applied, Folded}
 use Rattle.rule.specs.Laws.{RuleLaws, CandidateLaws}
+use Rattle.rule.proofs.Items.{item-unique}
 use Rattle.rule.proofs.WhereIs.{Where, Where.on-arm, Where.is-dropped, Where.neither, where-is}
 use Rattle.rule.proofs.Listings.{listing-unique, listing-same, place-of}
 
@@ -32,20 +32,13 @@ map-injective {A} f (x ∷ l) (y ∷ k) h q =
     ap₂ {C = List A} (λ a b. a ∷ b) first rest
 
 module _ {G : Graph → Type 0} {C : CandidateSet} {R : Rule} (L : CandidateLaws G C) (M : RuleLaws R) where
-  pub item-unique : {E : Graph} {c : Counts} {i j : Item} → Fits C R E c i → Fits C R E c j → i .entrance ≡ j .entrance → i ≡ j
-  item-unique {E} {c} {i} {j} f h p =
-      let q : i .exit ≡ j .exit = exit-unique (L .superbubble (f .candidate)) (rw p (L .superbubble (h .candidate))) in
-      let r : i .arm ≡ j .arm = M .one (L .superbubble (f .candidate)) (f .kept) (rw (p, q) (h .kept)) in
-      let d : i .dropped ≡ j .dropped = listing-unique (f .rest) (rw (p, q, r) (h .rest)) in
-      λ k. record { entrance = p k; exit = q k; arm = r k; dropped = d k }
-
   module _ {E E′ E″ : Graph} {c c′ c″ : Counts} {b : ℕ} (one : Applied C R E c b E′ c′) (other : Applied C R E c b E″ c″) where
     candidates-same : one .candidates ≡ other .candidates
     candidates-same = listing-unique (one .listed) (other .listed)
 
     items-same : one .items ≡ other .items
     items-same =
-        map-injective (λ (i : Item). i .entrance) (one .items) (other .items) (λ i j m n. item-unique (one .fit i m) (other .fit j n))
+        map-injective (λ (i : Item). i .entrance) (one .items) (other .items) (λ i j m n. item-unique L M (one .fit i m) (other .fit j n))
         (one .first ∙ ap (take b) candidates-same ∙ sym (other .first))
 
     counts-same : (v : ℕ) → Where v (one .items) → c′ v ≡ c″ v

@@ -13,7 +13,8 @@ use Rattle.rule.specs.Laws.{SameInside, RuleLaws, CandidateLaws}
 use Rattle.rule.proofs.Inside.{inside-back, interior-inside}
 use Rattle.rule.proofs.Together.{entrances, Staying}
 use Rattle.rule.proofs.Listings.{listing-unique, listing-same, getD-in, sum-same}
-use Rattle.rule.proofs.Remaining.{item-arm, after-applied, remaining-listed, other-untouched}
+use Rattle.rule.proofs.Items.{item-arm, dropped-inner}
+use Rattle.rule.proofs.Remaining.{after-applied, remaining-listed, other-untouched}
 
 module _ {G : Graph → Type 0} {C : CandidateSet} {R : Rule} (L : CandidateLaws G C) (M : RuleLaws R) {E E₁ E₂ : Graph} {c c₁ c₂ : Counts} {b₁ b₂ : ℕ}
     (g : G E) (one : Applied C R E c b₁ E₁ c₁) (two : Applied C R E₁ c₁ b₂ E₂ c₂) where
@@ -67,10 +68,10 @@ module _ {G : Graph → Type 0} {C : CandidateSet} {R : Rule} (L : CandidateLaws
   -- what the first fold adds and empties, the second leaves alone
   added-sooner : (i : Item) → List·Memᴰ i (one .items) → (j : ℕ) → j < length (i .arm)
       → c₂ (getD (i .arm) j 0) ≡ c (getD (i .arm) j 0) + R .portion (sum c (i .dropped)) (length (i .arm)) j
-  added-sooner i m j h = let v = getD (i .arm) j 0 in left-alone i m v (item-arm L M g one i m .inner v (getD-in (i .arm) j h)) ∙ one .added i m j h
+  added-sooner i m j h = let v = getD (i .arm) j 0 in left-alone i m v (item-arm L M (one .fit i m) .inner v (getD-in (i .arm) j h)) ∙ one .added i m j h
 
   emptied-sooner : (i : Item) → List·Memᴰ i (one .items) → (v : ℕ) → List·Memᴰ v (i .dropped) → c₂ v ≡ 0
-  emptied-sooner i m v h = left-alone i m v (one .fit i m .rest .holds v .0 h .0) ∙ one .emptied i m v h
+  emptied-sooner i m v h = left-alone i m v (dropped-inner L M (one .fit i m) h) ∙ one .emptied i m v h
 
   untouched-both : (v : ℕ) → ((i : Item) → List·Memᴰ i (one .items ++ two .items) → Interior E (i .entrance) (i .exit) v → ⊥) → c₂ v ≡ c v
   untouched-both v h =
@@ -82,8 +83,8 @@ module _ {G : Graph → Type 0} {C : CandidateSet} {R : Rule} (L : CandidateLaws
       → c₂ (getD (i .arm) j 0) ≡ c (getD (i .arm) j 0) + R .portion (sum c (i .dropped)) (length (i .arm)) j
   added-later i m j h =
       let v = getD (i .arm) j 0 in
-      let here : c₁ v ≡ c v = same-count i m v (M .path (L .superbubble (before i m .0)) (fits-before i m .kept) .inner v (getD-in (i .arm) j h)) in
-      let dropped : sum c₁ (i .dropped) ≡ sum c (i .dropped) = sum-same (i .dropped) (λ w k. same-count i m w (fits-before i m .rest .holds w .0 k .0)) in
+      let here : c₁ v ≡ c v = same-count i m v (item-arm L M (fits-before i m) .inner v (getD-in (i .arm) j h)) in
+      let dropped : sum c₁ (i .dropped) ≡ sum c (i .dropped) = sum-same (i .dropped) (λ w k. same-count i m w (dropped-inner L M (fits-before i m) k)) in
       two .added i m j h ∙ ap₂ (λ x y. x + R .portion y (length (i .arm)) j) here dropped
 
   pub budgets-add : Applied C R E c (b₁ + b₂) E₂ c₂

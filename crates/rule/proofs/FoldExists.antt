@@ -5,7 +5,6 @@ use mathlib.Core.Path.{_≡_, refl, sym, ap, ap₂, subst}
 use mathlib.Core.Logic.{⊎-elim}
 use mathlib.Core.List.{List, [], _∷_, List·Memᴰ, List·Memᴰ·head, List·Memᴰ·tail, List·Memᴰ·not-nil, List·Memᴰ·cases-cons, Memᴰ·cast, Memᴰ·append-left}
 use native.Mathlib.Omega.{arith}
-use native.Mathlib.Decide.{ℕ-discrete}
 use lib.ListN.{length, take, drop, getD, take-append-drop}
 use Rattle.bubble.specs.Superbubble.{Interior}
 use Rattle.bubble.proofs.Pigeonhole.{Distinct, Distinct.empty, Distinct.fresh}
@@ -14,10 +13,9 @@ use Rattle.bubble.proofs.Reflect.{decided, decides-member}
 use Rattle.rule.specs.Lists.{Graph, CandidateSet, Counts, Listing, sum}
 use Rattle.rule.specs.Fold.{Rule, NoCycle, Candidate, Entrance, first-takes-all, Item, Fits, Applied, Folded}
 use Rattle.rule.specs.Laws.{RuleLaws, CandidateLaws}
-use Rattle.rule.proofs.Arms.{inner-distinct}
 use Rattle.rule.proofs.Together.{entrances, Staying}
 use Rattle.rule.proofs.WhereIs.{Where, Where.on-arm, Where.is-dropped, Where.neither, where-is}
-use Rattle.rule.proofs.Coincide.{item-unique}
+use Rattle.rule.proofs.Items.{item-arm, dropped-inner, arm-distinct-inner, one-item}
 use Rattle.rule.proofs.Budgets.{folded-of}
 use Rattle.rule.proofs.Listings.{listing-exists, getD-in, place-of}
 use Rattle.rule.proofs.BestLaws.{first-takes-all-laws}
@@ -35,24 +33,10 @@ distinct-places (suc j) (suc k) (fresh n d) h g q = ap suc (distinct-places j k 
 
 module _ {G : Graph → Type 0} {C : CandidateSet} {R : Rule} (L : CandidateLaws G C) (M : RuleLaws R) {E : Graph} {c : Counts} (g : G E)
     (items : List Item) (fit : (i : Item) → List·Memᴰ i items → Fits C R E c i) where
-  -- two items with a common interior vertex are one
-  one-item : {v : ℕ} (i j : Item) → List·Memᴰ i items → List·Memᴰ j items → Interior E (i .entrance) (i .exit) v → Interior E (j .entrance) (j .exit) v → i ≡ j
-  one-item i j m n h k =
-      elim (ℕ-discrete (i .entrance) (j .entrance)) [
-        | yes q ↦ item-unique L M (fit i m) (fit j n) q
-        | no l ↦ absurd (L .apart g (fit i m .candidate) (fit j n .candidate) l h (k .inside))
-      ]
-
-  arm-inner : {v : ℕ} (i : Item) → List·Memᴰ i items → List·Memᴰ v (i .arm) → Interior E (i .entrance) (i .exit) v
-  arm-inner {v} i m = M .path (L .superbubble (fit i m .candidate)) (fit i m .kept) .inner v
-
-  dropped-inner : {v : ℕ} (i : Item) → List·Memᴰ i items → List·Memᴰ v (i .dropped) → Interior E (i .entrance) (i .exit) v
-  dropped-inner {v} i m d = fit i m .rest .holds v .0 d .0
-
   -- no vertex is kept by one item and dropped by one
   not-both : {v : ℕ} (i j : Item) → List·Memᴰ i items → List·Memᴰ j items → List·Memᴰ v (i .arm) → List·Memᴰ v (j .dropped) → ⊥
   not-both {v} i j m n h d =
-      let q : i ≡ j = one-item i j m n (arm-inner i m h) (dropped-inner j n d) in
+      let q : i ≡ j = one-item L M g (fit i m) (fit j n) (item-arm L M (fit i m) .inner v h) (dropped-inner L M (fit j n) d) in
       fit j n .rest .holds v .0 d .1 (subst (λ (x : Item). List·Memᴰ v (x .arm)) q h)
 
   -- what the item adds at a place of its arm
@@ -68,12 +52,11 @@ module _ {G : Graph → Type 0} {C : CandidateSet} {R : Rule} (L : CandidateLaws
       → new-count (getD (i .arm) j 0) w ≡ c (getD (i .arm) j 0) + share i j
   unfolding new-count
   added i m j h (on-arm k n a) =
-      let q : k ≡ i = one-item k i n m (arm-inner k n a) (arm-inner i m (getD-in (i .arm) j h)) in
-      let d = inner-distinct (i .arm) (L .superbubble (fit i m .candidate)) (M .path (L .superbubble (fit i m .candidate)) (fit i m .kept)) in
-      let at-i : (b : List·Memᴰ (getD (i .arm) j 0) (i .arm)) → share i (place-of b .0) ≡ share i j =
-      λ b. let (x, y, z) = place-of b in ap (share i) (distinct-places x j d y h z) in
-      ap (λ (x : ℕ). c (getD (i .arm) j 0) + x)
-      (subst (λ (x : Item). (b : List·Memᴰ (getD (i .arm) j 0) (x .arm)) → share x (place-of b .0) ≡ share i j) (sym q) at-i a)
+      let v = getD (i .arm) j 0 in
+      let q : k ≡ i = one-item L M g (fit k n) (fit i m) (item-arm L M (fit k n) .inner v a) (item-arm L M (fit i m) .inner v (getD-in (i .arm) j h)) in
+      let at-i : (b : List·Memᴰ v (i .arm)) → share i (place-of b .0) ≡ share i j =
+      λ b. let (x, y, z) = place-of b in ap (share i) (distinct-places x j (arm-distinct-inner L M (fit i m)) y h z) in
+      ap (λ (x : ℕ). c v + x) (subst (λ (x : Item). (b : List·Memᴰ v (x .arm)) → share x (place-of b .0) ≡ share i j) (sym q) at-i a)
   added i m j h (is-dropped k n d) = absurd (not-both i k m n (getD-in (i .arm) j h) d)
   added i m j h (neither n) = absurd (n i m .0 (getD-in (i .arm) j h))
 
@@ -85,8 +68,8 @@ module _ {G : Graph → Type 0} {C : CandidateSet} {R : Rule} (L : CandidateLaws
 
   untouched : (v : ℕ) → ((i : Item) → List·Memᴰ i items → Interior E (i .entrance) (i .exit) v → ⊥) → (w : Where v items) → new-count v w ≡ c v
   unfolding new-count
-  untouched v h (on-arm k n a) = absurd (h k n (arm-inner k n a))
-  untouched v h (is-dropped k n d) = absurd (h k n (dropped-inner k n d))
+  untouched v h (on-arm k n a) = absurd (h k n (item-arm L M (fit k n) .inner v a))
+  untouched v h (is-dropped k n d) = absurd (h k n (dropped-inner L M (fit k n) d))
   untouched v h (neither n) = refl
 
   -- the items folded at once

@@ -15,7 +15,7 @@ use Rattle.rule.specs.Lists.{Graph, Counts, Listing}
 use Rattle.rule.specs.Kept.{Kept}
 use Rattle.rule.proofs.Listings.{listing-exists}
 use Rattle.rule.proofs.Pick.{Picked, pick}
-use Rattle.rule.proofs.ByNext.{worth, worth-exit, worth-other, Settled, Short, by-next-kept, by-next-ends}
+use Rattle.rule.proofs.ByNext.{worth, worth-exit, worth-other, Settled, picked-settled, Short, by-next-kept, by-next-ends}
 
 worth-same : (c : Counts) {t u : ℕ} (best best′ : ℕ → ℕ) → (u ≢ t → best u ≡ best′ u) → worth c t best u ≡ worth c t best′ u
 worth-same c {t} {u} best best′ h =
@@ -29,7 +29,7 @@ choice : (ℕ → ℕ) → List ℕ → ℕ
 choice f [] = 0
 choice f (x ∷ l) = pick f x l .0
 
-choice-picked : (f : ℕ → ℕ) {u : ℕ} (l : List ℕ) → List·Memᴰ u l → Picked f l (choice f l)
+choice-picked : (f : ℕ → ℕ) {u : ℕ} (l : List ℕ) → List·Memᴰ u l → Picked f (λ v. List·Memᴰ v l) (choice f l)
 unfolding choice
 choice-picked f [] m = absurd (List·Memᴰ·not-nil m)
 choice-picked f (x ∷ l) m = pick f x l .1
@@ -39,9 +39,9 @@ choice-same : (f g : ℕ → ℕ) {u : ℕ} (l : List ℕ) → List·Memᴰ u l 
 choice-same f g l m h =
     let p = choice-picked f l m in
     let q = choice-picked g l m in
-    let a = p .largest (choice g l) (q .listed) in
-    let b = q .largest (choice f l) (p .listed) in
-    omega (arith, a, b, h (choice f l) (p .listed), h (choice g l) (q .listed))
+    let a = p .largest (choice g l) (q .among) in
+    let b = q .largest (choice f l) (p .among) in
+    omega (arith, a, b, h (choice f l) (p .among), h (choice g l) (q .among))
 
 module _ {E : Graph} (decide : (u v : ℕ) → Dec (E u v)) {n : ℕ} (below : Below E n) (c : Counts) where
   children : (v : ℕ) → (l : List ℕ) × Listing (E v) l
@@ -92,12 +92,7 @@ module _ {E : Graph} (decide : (u v : ℕ) → Dec (E u v)) {n : ℕ} (below : B
         let gain = worth c t (value t n) in
         let p = choice-picked gain (children v .0) (child-listed f m .1) in
         let q : gain (choice gain (children v .0)) ≡ value t n v = value-settles (suc n) n f m (short (suc n) (omega arith) f m) (short n (omega arith) f m) in
-        record {
-          child = children v .1 .holds (choice gain (children v .0)) .0 (p .listed);
-          reached = q;
-          largest = λ u e. rw (← q) (p .largest u (children v .1 .holds u .1 e));
-          smallest = λ u e r. p .smallest u (children v .1 .holds u .1 e) (r ∙ sym q);
-        }
+        picked-settled (λ u. (children v .1 .holds u .0, children v .1 .holds u .1)) p q
 
     pub kept-exists : (l : List ℕ) × Kept E c s t l
     kept-exists = let (l, r) = by-next-ends b settled n start (b .distinct) (short n (omega arith) start (b .distinct)) in (l, by-next-kept b settled r)

@@ -1,5 +1,6 @@
 -- What follows from the fold rule. Each file begins with what it shows; a file cites only files above it here.
 -- Assumes nothing.
+-- one superbubble is folded, in any graph
 pub mod Fewer
 pub mod Thread
 pub mod Carry
@@ -9,17 +10,21 @@ pub mod Following
 pub mod Arms
 pub mod Inside
 pub mod Others
-pub mod Together
+-- lists and sums
 pub mod Listings
+pub mod Sums
+-- several are folded at once, for every lawful rule and set of candidates
+pub mod Together
+pub mod Items
 pub mod Remaining
 pub mod Compose
 pub mod Budgets
 pub mod WhereIs
 pub mod Coincide
-pub mod Sums
 pub mod Total
 pub mod Ends
 pub mod NewRows
+-- document 01's rule and its candidates are lawful
 pub mod Choice
 pub mod Through
 pub mod BestLaws
@@ -28,11 +33,14 @@ pub mod Reach
 pub mod Passable
 pub mod Candidates
 pub mod Outermost
+-- demand 3
 pub mod Demand
-pub mod ByNext
+-- the kept path by dynamic programming, and a fold for every graph and budget
 pub mod Pick
+pub mod ByNext
 pub mod KeptExists
 pub mod CandidatesListed
 pub mod FoldExists
+-- tables
 pub mod SameTable
 pub mod TableDemand

@@ -14,7 +14,7 @@ use Rattle.rule.proofs.Thread.{Thread}
 use Rattle.rule.proofs.Following.{follows-tail, follows-head}
 use Rattle.rule.proofs.Arms.{arm-thread}
 use Rattle.rule.proofs.Together.{First, first-folded, Staying}
-use Rattle.rule.proofs.Coincide.{item-unique}
+use Rattle.rule.proofs.Items.{item-superbubble, item-arm, item-unique}
 
 -- v is the next vertex after u from the entrance along the arm to the exit
 abbrev pub Next : Item → Graph
@@ -28,8 +28,7 @@ module _ {G : Graph → Type 0} {C : CandidateSet} {R : Rule} (L : CandidateLaws
 
     thread : Thread E (First E i) (i .entrance) (i .exit) (Next i)
     thread =
-        let p = L .superbubble (fit i m .candidate) in
-        arm-thread p (L .passed-once g (fit i m .candidate)) (M .path p (fit i m .kept)) (first-folded E i)
+        arm-thread (item-superbubble L M (fit i m)) (L .passed-once g (fit i m .candidate)) (item-arm L M (fit i m)) (first-folded E i)
 
     -- a dropped vertex is not on the kept path
     off-path : {v : ℕ} → List·Memᴰ v (i .dropped) → List·Memᴰ v (i .entrance ∷ i .arm ++ (i .exit ∷ [])) → ⊥

@@ -1,4 +1,4 @@
--- The entry of a list with the largest value, and of several the smallest.
+-- Of several numbers the one with the largest value, and of equal values the smallest: as a loop finds it that looks at one after another.
 -- Assumes nothing.
 use Prim.Native.Nat.{ℕ, _≤_, _<_}
 use mathlib.Core.Path.{_≡_, refl, sym, _∙_}
@@ -8,20 +8,17 @@ use native.Mathlib.Omega.{arith}
 use native.Mathlib.Nat.{le-refl}
 use native.Mathlib.Decide.{ℕ-discrete, decLe, decLt}
 
-pub record Picked (f : ℕ → ℕ) (l : List ℕ) (u : ℕ) : Type 0 where
-  pub listed : List·Memᴰ u l
-  pub largest : (v : ℕ) → List·Memᴰ v l → f v ≤ f u
-  pub smallest : (v : ℕ) → List·Memᴰ v l → f v ≡ f u → u ≤ v
+-- u is picked among those with P
+pub record Picked (f : ℕ → ℕ) (P : ℕ → Type 0) (u : ℕ) : Type 0 where
+  pub among : P u
+  pub largest : (v : ℕ) → P v → f v ≤ f u
+  pub smallest : (v : ℕ) → P v → f v ≡ f u → u ≤ v
 
-picked-one : (f : ℕ → ℕ) (x : ℕ) → Picked f (x ∷ []) x
-picked-one f x = record {
-  listed = List·Memᴰ·head refl;
-  largest = λ v m. let q : v ≡ x = List·Memᴰ·eq-of-singleton m in rw q (le-refl (f x));
-  smallest = λ v m e. let q : v ≡ x = List·Memᴰ·eq-of-singleton m in omega arith;
-}
+pub picked-alone : (f : ℕ → ℕ) {P : ℕ → Type 0} {x : ℕ} → P x → ((v : ℕ) → P v → v ≡ x) → Picked f P x
+picked-alone f {P} {x} p h = record { among = p; largest = λ v q. rw (h v q) (le-refl (f x)); smallest = λ v q e. omega (arith, h v q) }
 
 -- u is better than v, or as good
-abbrev AsGood : (ℕ → ℕ) → ℕ → ℕ → Type 0
+abbrev pub AsGood : (ℕ → ℕ) → ℕ → ℕ → Type 0
 AsGood f u v = (f v < f u) ⊎ ((f v ≡ f u) × (u ≤ v))
 
 one-as-good : (f : ℕ → ℕ) (u v : ℕ) → AsGood f u v ⊎ AsGood f v u
@@ -31,26 +28,32 @@ one-as-good f u v =
       | no n ↦ elim (decLt (f v) (f u)) [ yes h ↦ inl (inl h) | no m ↦ inr (inl (omega arith)) ]
     ]
 
-picked-first : {f : ℕ → ℕ} {x u : ℕ} {l : List ℕ} → AsGood f x u → Picked f l u → Picked f (x ∷ l) x
-picked-first {f} {x} {u} g p = record {
-  listed = List·Memᴰ·head refl;
-  largest = λ v m. ⊎-elim (λ q. rw q (le-refl (f x))) (λ i. let h = p .largest v i in ⊎-elim (λ k. omega arith) (λ k. omega (arith, k .0)) g)
-      (List·Memᴰ·cases-cons m);
-  smallest = λ v m e.
-      let rest : List·Memᴰ v _ → x ≤ v =
-      λ i. let h = p .largest v i in ⊎-elim (λ k. absurd (omega arith)) (λ k. omega (arith, k .1, p .smallest v i (e ∙ sym (k .0)))) g in
-      ⊎-elim (λ q. omega arith) rest (List·Memᴰ·cases-cons m);
-}
+-- one more number x is looked at: those with Q are x and those with P
+module _ {f : ℕ → ℕ} {P Q : ℕ → Type 0} {x u : ℕ} (only : (v : ℕ) → Q v → (v ≡ x) ⊎ P v) (p : Picked f P u) where
+  pub picked-new : Q x → AsGood f x u → Picked f Q x
+  picked-new q g = record { among = q; largest = largest; smallest = smallest }
+    where
+      largest : (v : ℕ) → Q v → f v ≤ f x
+      largest v r = ⊎-elim (λ e. rw e (le-refl (f x))) (λ i. let h = p .largest v i in ⊎-elim (λ k. omega arith) (λ k. omega (arith, k .0)) g) (only v r)
 
-picked-rest : {f : ℕ → ℕ} {x u : ℕ} {l : List ℕ} → AsGood f u x → Picked f l u → Picked f (x ∷ l) u
-picked-rest {f} {x} {u} g p = record {
-  listed = List·Memᴰ·tail (p .listed);
-  largest = λ v m. ⊎-elim (λ q. rw q (⊎-elim (λ k. omega arith) (λ k. omega (arith, k .0)) g)) (p .largest v) (List·Memᴰ·cases-cons m);
-  smallest = λ v m e.
-      let first : v ≡ x → u ≤ v = λ q. let e′ : f x ≡ f u = rw q at e in ⊎-elim (λ k. absurd (omega arith)) (λ k. omega (arith, q, k .1)) g in
-      ⊎-elim first (λ i. p .smallest v i e) (List·Memᴰ·cases-cons m);
-}
+      smallest : (v : ℕ) → Q v → f v ≡ f x → x ≤ v
+      smallest v r e =
+          ⊎-elim (λ z. omega arith) (λ i. let h = p .largest v i in ⊎-elim (λ k. absurd (omega arith))
+          (λ k. omega (arith, k .1, p .smallest v i (e ∙ sym (k .0)))) g) (only v r)
 
-pub pick : (f : ℕ → ℕ) (x : ℕ) (l : List ℕ) → (u : ℕ) × Picked f (x ∷ l) u
-pick f x [] = (x, picked-one f x)
-pick f x (y ∷ l) = let (u, p) = pick f y l in ⊎-elim (λ g. (x, picked-first g p)) (λ g. (u, picked-rest g p)) (one-as-good f x u)
+  pub picked-old : Q u → AsGood f u x → Picked f Q u
+  picked-old q g = record { among = q; largest = largest; smallest = smallest }
+    where
+      largest : (v : ℕ) → Q v → f v ≤ f u
+      largest v r = ⊎-elim (λ e. rw e (⊎-elim (λ k. omega arith) (λ k. omega (arith, k .0)) g)) (p .largest v) (only v r)
+
+      smallest : (v : ℕ) → Q v → f v ≡ f u → u ≤ v
+      smallest v r e =
+          ⊎-elim (λ z. let z′ : f x ≡ f u = rw z at e in ⊎-elim (λ k. absurd (omega arith)) (λ k. omega (arith, z, k .1)) g) (λ i. p .smallest v i e) (only v r)
+
+pub pick : (f : ℕ → ℕ) (x : ℕ) (l : List ℕ) → (u : ℕ) × Picked f (λ v. List·Memᴰ v (x ∷ l)) u
+pick f x [] = (x, picked-alone f (List·Memᴰ·head refl) (λ v. List·Memᴰ·eq-of-singleton))
+pick f x (y ∷ l) =
+    let (u, p) = pick f y l in
+    ⊎-elim (λ g. (x, picked-new (λ v. List·Memᴰ·cases-cons) p (List·Memᴰ·head refl) g))
+    (λ g. (u, picked-old (λ v. List·Memᴰ·cases-cons) p (List·Memᴰ·tail (p .among)) g)) (one-as-good f x u)

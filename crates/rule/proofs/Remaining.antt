@@ -7,19 +7,16 @@ use lib.ListN.{length, take, drop, length-map, length-take}
 use Rattle.bubble.specs.Superbubble.{Interior}
 use Rattle.bubble.proofs.Pigeonhole.{Distinct}
 use Rattle.rule.specs.Lists.{Graph, CandidateSet, Counts, Listing}
-use Rattle.rule.specs.Kept.{Arm}
 use Rattle.rule.specs.Fold.{Rule, Item, Entrance, Applied, Folded}
 use Rattle.rule.specs.Laws.{RuleLaws, CandidateLaws}
 use Rattle.rule.proofs.Together.{entrances, Foldable, After, after}
+use Rattle.rule.proofs.Items.{item-arm}
 use Rattle.rule.proofs.Listings.{listing-unique, listing-same, listing-front, listing-rest}
 
 module _ {G : Graph → Type 0} {C : CandidateSet} {R : Rule} (L : CandidateLaws G C) (M : RuleLaws R) {E E′ : Graph} {c c′ : Counts} {b : ℕ} (g : G E)
     (a : Applied C R E c b E′ c′) where
-  pub item-arm : (i : Item) → List·Memᴰ i (a .items) → Arm E (i .entrance) (i .exit) (i .arm)
-  item-arm i m = M .path (L .superbubble (a .fit i m .candidate)) (a .fit i m .kept)
-
   foldable : (i : Item) → List·Memᴰ i (a .items) → Foldable C E i
-  foldable i m = record { candidate = a .fit i m .candidate; path = item-arm i m }
+  foldable i m = record { candidate = a .fit i m .candidate; path = item-arm L M (a .fit i m) }
 
   pub items-differ : Distinct (entrances (a .items))
   items-differ = rw (a .first) (listing-front (a .listed) b)

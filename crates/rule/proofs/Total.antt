@@ -6,18 +6,14 @@ use mathlib.Core.Logic.{⊎-elim}
 use mathlib.Core.List.{List, [], _∷_, _++_, List·Memᴰ, List·Memᴰ·head, List·Memᴰ·tail, List·Memᴰ·not-nil, List·Memᴰ·append-cases, Memᴰ·append-left, Memᴰ·append-right, Memᴰ·map, Memᴰ·cast}
 use native.Mathlib.Omega.{arith}
 use lib.ListN.{length}
-use Rattle.bubble.specs.Superbubble.{Interior}
 use Rattle.bubble.proofs.Facts.{predecessor}
 use Rattle.bubble.proofs.Pigeonhole.{Distinct, Distinct.empty, Distinct.fresh, distinct-append}
 use Rattle.bubble.proofs.Number.{Below}
-use Rattle.bubble.proofs.Reflect.{decided, decides-member}
 use Rattle.rule.specs.Lists.{Graph, CandidateSet, Counts, sum, total}
-use Rattle.rule.specs.Kept.{Arm}
 use Rattle.rule.specs.Fold.{Rule, Item, Fits, Applied}
 use Rattle.rule.specs.Laws.{RuleLaws, CandidateLaws}
-use Rattle.rule.proofs.Arms.{inner-distinct}
 use Rattle.rule.proofs.Together.{entrances}
-use Rattle.rule.proofs.Listings.{rising-distinct}
+use Rattle.rule.proofs.Items.{item-superbubble, dropped-inner, arm-or-dropped, interior-listed, interior-distinct}
 use Rattle.rule.proofs.Remaining.{items-differ}
 use Rattle.rule.proofs.Sums.{sum-append, sum-zero, sum-added, total-moved}
 
@@ -38,34 +34,16 @@ of-touched (j ∷ items) m =
     ⊎-elim (λ h. (j, List·Memᴰ·head refl, h)) (λ k. let (i, n, h) = of-touched items k in (i, List·Memᴰ·tail n, h)) (List·Memᴰ·append-cases (j .arm ++ j .dropped) m)
 
 module _ {G : Graph → Type 0} {C : CandidateSet} {R : Rule} (L : CandidateLaws G C) (M : RuleLaws R) {E : Graph} {c : Counts} where
-  -- arm and dropped are the interior
-  module _ (i : Item) (f : Fits C R E c i) where
-    arm-of : Arm E (i .entrance) (i .exit) (i .arm)
-    arm-of = M .path (L .superbubble (f .candidate)) (f .kept)
-
-    of-interior : (v : ℕ) → List·Memᴰ v (i .arm ++ i .dropped) → Interior E (i .entrance) (i .exit) v
-    of-interior v m = ⊎-elim (arm-of .inner v) (λ k. f .rest .holds v .0 k .0) (List·Memᴰ·append-cases (i .arm) m)
-
-    in-interior : (v : ℕ) → Interior E (i .entrance) (i .exit) v → List·Memᴰ v (i .arm ++ i .dropped)
-    in-interior v h = elim (decided (decides-member v (i .arm))) [
-      | yes m ↦ Memᴰ·append-left (i .dropped) m
-      | no n ↦ Memᴰ·append-right (i .arm)
-          (f .rest .holds v .1 (h, n))
-    ]
-
-    interior-distinct : Distinct (i .arm ++ i .dropped)
-    interior-distinct =
-        distinct-append (inner-distinct (i .arm) (L .superbubble (f .candidate)) arm-of) (rising-distinct (f .rest .rising)) (λ v m k. f .rest .holds v .0 k .1 m)
-
-    -- all that is dropped is added again
-    whole-dropped : (l : List ℕ) → R .keeps E c (i .entrance) (i .exit) l → total (R .portion (sum c (i .dropped)) (length l)) (length l) ≡ sum c (i .dropped)
-    whole-dropped [] k = sym (sum-zero (i .dropped) (λ v m. M .bare (L .superbubble (f .candidate)) k v (f .rest .holds v .0 m .0)))
-    whole-dropped (x ∷ l) k = M .whole (sum c (i .dropped)) (suc (length l)) (omega arith)
+  -- all that is dropped is added again
+  whole-dropped : (i : Item) → Fits C R E c i → (l : List ℕ) → R .keeps E c (i .entrance) (i .exit) l
+      → total (R .portion (sum c (i .dropped)) (length l)) (length l) ≡ sum c (i .dropped)
+  whole-dropped i f [] k = sym (sum-zero (i .dropped) (λ v m. M .bare (item-superbubble L M f) k v (dropped-inner L M f m)))
+  whole-dropped i f (x ∷ l) k = M .whole (sum c (i .dropped)) (suc (length l)) (omega arith)
 
   touched-distinct : (items : List Item) → G E → ((i : Item) → List·Memᴰ i items → Fits C R E c i) → Distinct (entrances items) → Distinct (touched items)
   unfolding touched
   touched-distinct [] g f d = empty
-  touched-distinct (i ∷ items) g f (fresh n d) = distinct-append (interior-distinct i fi) (touched-distinct items g (λ j m. f j (List·Memᴰ·tail m)) d) apart
+  touched-distinct (i ∷ items) g f (fresh n d) = distinct-append (interior-distinct L M fi) (touched-distinct items g (λ j m. f j (List·Memᴰ·tail m)) d) apart
     where
       fi : Fits C R E c i
       fi = f i (List·Memᴰ·head refl)
@@ -75,7 +53,7 @@ module _ {G : Graph → Type 0} {C : CandidateSet} {R : Rule} (L : CandidateLaws
           let (j, h, l) = of-touched items k in
           let fj = f j (List·Memᴰ·tail h) in
           let entrance : Item → ℕ = λ x. x .entrance in
-          L .apart g (fi .candidate) (fj .candidate) (λ q. n (Memᴰ·cast q (Memᴰ·map entrance h))) (of-interior i fi v m) (of-interior j fj v l .inside)
+          L .apart g (fi .candidate) (fj .candidate) (λ q. n (Memᴰ·cast q (Memᴰ·map entrance h))) (arm-or-dropped L M fi m) (arm-or-dropped L M fj l .inside)
 
   module _ {E′ : Graph} {c′ : Counts} {b : ℕ} (g : G E) (a : Applied C R E c b E′ c′) where
     item-sum : (i : Item) → List·Memᴰ i (a .items) → sum c′ (i .arm ++ i .dropped) ≡ sum c (i .arm ++ i .dropped)
@@ -101,13 +79,14 @@ module _ {G : Graph → Type 0} {C : CandidateSet} {R : Rule} (L : CandidateLaws
           touched-sum items (λ j m. h j (List·Memᴰ·tail m)),
         )
 
+    touched-below : {n : ℕ} → Below E n → (v : ℕ) → List·Memᴰ v (touched (a .items)) → v < n
+    touched-below below v m =
+        let (i, k, h) = of-touched (a .items) m in
+        let inner = arm-or-dropped L M (a .fit i k) h in
+        let (u, f, e) = predecessor (item-superbubble L M (a .fit i k) .bubbloid) (inner .inside) (inner .not-entrance) in
+        below u v e .1
+
     pub total-kept : (n : ℕ) → Below E n → total c′ n ≡ total c n
     total-kept n below =
-        let l = touched (a .items) in
-        let bounded : (v : ℕ) → List·Memᴰ v l → v < n = λ v m.
-        let (i, k, h) = of-touched (a .items) m in
-        let inner = of-interior i (a .fit i k) v h in
-        let (u, f, e) = predecessor (L .superbubble (a .fit i k .candidate) .bubbloid) (inner .inside) (inner .not-entrance) in
-        below u v e .1 in
-        total-moved n (touched-distinct (a .items) g (a .fit) (items-differ L M g a)) bounded
-        (λ v out. a .untouched v (λ i m h. out (in-touched (a .items) m (in-interior i (a .fit i m) v h)))) (touched-sum (a .items) (λ i m. m))
+        total-moved n (touched-distinct (a .items) g (a .fit) (items-differ L M g a)) (touched-below below)
+        (λ v out. a .untouched v (λ i m h. out (in-touched (a .items) m (interior-listed L M (a .fit i m) h)))) (touched-sum (a .items) (λ i m. m))
