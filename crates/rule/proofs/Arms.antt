@@ -19,7 +19,7 @@ via-first (bare e) (begins q) = rw q e
 via-first (then e p) (begins q) = rw q e
 
 -- from one vertex of a path to the next there is an edge
-pub via-edge : {E : Graph} {t s u v : ℕ} {l : List ℕ} → Via E t s l → Follows (s ∷ l ++ (t ∷ [])) u v → E u v
+via-edge : {E : Graph} {t s u v : ℕ} {l : List ℕ} → Via E t s l → Follows (s ∷ l ++ (t ∷ [])) u v → E u v
 via-edge {E} (bare e) f = ⊎-elim (λ q. rw (q .0) (via-first {E = E} (bare e) (q .1))) (λ g. absurd (List·Memᴰ·not-nil (follows-head g))) (follows-cases f)
 via-edge {E} (then e p) f = ⊎-elim (λ q. rw (q .0) (via-first {E = E} (then e p) (q .1))) (via-edge p) (follows-cases f)
 
@@ -41,7 +41,7 @@ via-distinct {s = s} a p h (then {v = x} e r) =
 pub arm-inside : {E : Graph} {s t : ℕ} {l : List ℕ} → F E s t t → Arm E s t l → (v : ℕ) → List·Memᴰ v (l ++ (t ∷ [])) → F E s t v
 arm-inside {t = t} {l = l} f a v m = ⊎-elim (λ i. a .inner v i .inside) (λ i. let q : v ≡ t = List·Memᴰ·eq-of-singleton i in rw q f) (List·Memᴰ·append-cases l m)
 
-pub arm-distinct : {E : Graph} {s t : ℕ} {l : List ℕ} → Bubbloid E s t → Arm E s t l → Distinct (s ∷ l ++ (t ∷ []))
+arm-distinct : {E : Graph} {s t : ℕ} {l : List ℕ} → Bubbloid E s t → Arm E s t l → Distinct (s ∷ l ++ (t ∷ []))
 arm-distinct b a = via-distinct (b .acyclicity) start (arm-inside (exit-inside b) a) (a .path)
 
 distinct-front : (l k : List ℕ) → Distinct (l ++ k) → Distinct l

@@ -13,7 +13,7 @@ use Rattle.rule.specs.Kept.{Arm, Beats, Best, Kept}
 use Rattle.rule.specs.Fold.{to-first, first-takes-all}
 use Rattle.rule.specs.Laws.{SameInside, RuleLaws, ScoreLaws}
 use Rattle.rule.proofs.Inside.{inside-back, arm-carried}
-use Rattle.rule.proofs.Listings.{sum-same}
+use Rattle.rule.proofs.Sums.{sum-same}
 use Rattle.rule.proofs.Choice.{best-one}
 use Rattle.rule.proofs.Through.{arm-through}
 

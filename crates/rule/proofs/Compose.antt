@@ -12,7 +12,8 @@ use Rattle.rule.specs.Fold.{Rule, Item, Fits, Applied}
 use Rattle.rule.specs.Laws.{SameInside, RuleLaws, CandidateLaws}
 use Rattle.rule.proofs.Inside.{inside-back, interior-inside}
 use Rattle.rule.proofs.Together.{entrances, Staying}
-use Rattle.rule.proofs.Listings.{listing-unique, listing-same, getD-in, sum-same}
+use Rattle.rule.proofs.Listings.{listing-unique, listing-same, getD-in}
+use Rattle.rule.proofs.Sums.{sum-same}
 use Rattle.rule.proofs.Items.{item-arm, dropped-inner}
 use Rattle.rule.proofs.Remaining.{after-applied, remaining-listed, other-untouched}
 

@@ -13,9 +13,6 @@ use Rattle.rule.specs.Lists.{Graph, Follows, Follows.here, Follows.later
 pub data Begins (v : ℕ) : List ℕ → Type 0 where
   begins : {w : ℕ} {l : List ℕ} → v ≡ w → Begins v (w ∷ l)
 
-begins-in : {v : ℕ} {l : List ℕ} → Begins v l → List·Memᴰ v l
-begins-in (begins q) = List·Memᴰ·head q
-
 begins-one : {u v : ℕ} {l : List ℕ} → Begins u l → Begins v l → u ≡ v
 begins-one (begins q) (begins r) = q ∙ sym r
 

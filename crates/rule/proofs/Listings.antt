@@ -1,6 +1,6 @@
--- A listing is the only one of its kind, and what is left of it after its first entries is a listing too; sums over a list.
+-- A listing is the only one of its kind, what is left of it after its first entries is a listing too, and what is decided below n has one; places on a list.
 -- Assumes nothing.
-use Prim.Native.Nat.{ℕ, zero, suc, _+_, _<_}
+use Prim.Native.Nat.{ℕ, zero, suc, _<_}
 use mathlib.Core.Path.{_≡_, refl, sym, ap₂}
 use mathlib.Core.Logic.{_≢_, _↔_, ⊎-elim}
 use mathlib.Core.List.{List, [], _∷_, _++_, List·Memᴰ, List·Memᴰ·head, List·Memᴰ·tail, List·Memᴰ·not-nil, List·Memᴰ·cases-cons, List·Memᴰ·eq-of-singleton, List·Memᴰ·append-cases, Memᴰ·append-left, Memᴰ·append-right}
@@ -9,7 +9,7 @@ use native.Mathlib.Omega.{arith}
 use native.Mathlib.Decide.{ℕ-discrete}
 use lib.ListN.{length, take, drop, getD, take-append-drop}
 use Rattle.bubble.proofs.Pigeonhole.{Distinct, Distinct.empty, Distinct.fresh}
-use Rattle.rule.specs.Lists.{Counts, Rising, Rising.empty, Rising.first, Listing, sum}
+use Rattle.rule.specs.Lists.{Rising, Rising.empty, Rising.first, Listing}
 
 pub rising-distinct : {l : List ℕ} → Rising l → Distinct l
 rising-distinct empty = empty
@@ -112,7 +112,3 @@ getD-in (x ∷ l) (suc j) h = List·Memᴰ·tail (getD-in l j (omega arith))
 pub place-of : {v : ℕ} {l : List ℕ} → List·Memᴰ v l → (j : ℕ) × (j < length l) × (getD l j 0 ≡ v)
 place-of (List·Memᴰ·head q) = (0, omega arith, sym q)
 place-of (List·Memᴰ·tail m) = let (j, h, q) = place-of m in (suc j, omega arith, q)
-
-pub sum-same : {c d : Counts} (l : List ℕ) → ((v : ℕ) → List·Memᴰ v l → c v ≡ d v) → sum c l ≡ sum d l
-sum-same [] h = refl
-sum-same (x ∷ l) h = ap₂ _+_ (h x (List·Memᴰ·head refl)) (sum-same l (λ v m. h v (List·Memᴰ·tail m)))

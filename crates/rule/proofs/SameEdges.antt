@@ -13,16 +13,16 @@ pub turned-round : {E E′ : Graph} → SameEdges E E′ → SameEdges E′ E
 turned-round h u v = (h u v .1, h u v .0)
 
 module _ {E E′ : Graph} (h : SameEdges E E′) where
-  pub to : (u v : ℕ) → E u v → E′ u v
+  to : (u v : ℕ) → E u v → E′ u v
   to u v = h u v .0
 
-  pub from : (u v : ℕ) → E′ u v → E u v
+  from : (u v : ℕ) → E′ u v → E u v
   from u v = h u v .1
 
   pub interior-same : {s t v : ℕ} → Interior E s t v → Interior E′ s t v
   interior-same i = interior-also i (F-fewer to (i .inside))
 
-  pub bubbloid-same : {s t : ℕ} → Bubbloid E s t → Bubbloid E′ s t
+  bubbloid-same : {s t : ℕ} → Bubbloid E s t → Bubbloid E′ s t
   bubbloid-same b = record {
     distinct = b .distinct;
     reachability = reaches-fewer to (b .reachability);

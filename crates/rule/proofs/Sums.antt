@@ -11,6 +11,10 @@ use Rattle.bubble.proofs.Pigeonhole.{Distinct, Distinct.empty, Distinct.fresh}
 use Rattle.bubble.proofs.Reflect.{decided, decides-member}
 use Rattle.rule.specs.Lists.{Counts, sum, total}
 
+pub sum-same : {c d : Counts} (l : List ℕ) → ((v : ℕ) → List·Memᴰ v l → c v ≡ d v) → sum c l ≡ sum d l
+sum-same [] h = refl
+sum-same (x ∷ l) h = ap₂ _+_ (h x (List·Memᴰ·head refl)) (sum-same l (λ v m. h v (List·Memᴰ·tail m)))
+
 pub sum-append : (c : Counts) (l k : List ℕ) → sum c (l ++ k) ≡ sum c l + sum c k
 sum-append c [] k = omega arith
 sum-append c (x ∷ l) k = omega (arith, sum-append c l k)
@@ -19,7 +23,7 @@ pub sum-zero : {c : Counts} (l : List ℕ) → ((v : ℕ) → List·Memᴰ v l �
 sum-zero [] h = refl
 sum-zero (x ∷ l) h = omega (arith, h x (List·Memᴰ·head refl), sum-zero l (λ v m. h v (List·Memᴰ·tail m)))
 
-pub total-same : {c d : Counts} (n : ℕ) → ((v : ℕ) → v < n → c v ≡ d v) → total c n ≡ total d n
+total-same : {c d : Counts} (n : ℕ) → ((v : ℕ) → v < n → c v ≡ d v) → total c n ≡ total d n
 total-same zero h = refl
 total-same (suc n) h = ap₂ _+_ (h n (omega arith)) (total-same n (λ v k. h v (omega arith)))
 
