@@ -37,7 +37,7 @@ module _ {score : Counts → List ℕ → ℕ} (h : ScoreLaws score) where
   best-bare : {E : Graph} {c : Counts} {s t : ℕ} → Bubbloid E s t → Best score E c s t [] → (v : ℕ) → Interior E s t v → c v ≡ 0
   best-bare {c = c} b p v i =
       let (l, a, m) = arm-through b i in
-      elim (decLt (score c []) (score c l)) [ yes k ↦ absurd (p .unbeaten l a (inl k)) | no n ↦ h .bare {c = c} l (omega arith) v m ]
+      elim (decLt (score c []) (score c l)) [ yes k ↦ absurd (p .unbeaten l a (inl k)) | no n ↦ h .bare c l (omega arith) v m ]
 
   pub best-laws : (portion : ℕ → ℕ → ℕ → ℕ) → ((d k : ℕ) → 0 < k → total (portion d k) k ≡ d) → RuleLaws (record { keeps = Best score; portion = portion })
   best-laws portion w = record {
@@ -53,7 +53,7 @@ count-within c (List·Memᴰ·head q) = rw q (omega arith)
 count-within c (List·Memᴰ·tail m) = omega (arith, count-within c m)
 
 pub sum-laws : ScoreLaws sum
-sum-laws = record { own = sum-same; bare = λ {c} l k v m. omega (arith, count-within c m) }
+sum-laws = record { own = sum-same; bare = λ c l k v m. omega (arith, count-within c m) }
 
 -- a kept bare edge means that every interior count is 0, so that nothing dropped is lost
 pub kept-bare-edge : {E : Graph} {c : Counts} {s t : ℕ} → Superbubble E s t → Kept E c s t [] → (v : ℕ) → Interior E s t v → c v ≡ 0

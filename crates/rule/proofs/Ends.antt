@@ -1,8 +1,8 @@
--- Where a fold ends: with a budget of all candidates none is left, and a fold where there is none gives back its input.
+-- Where a fold ends: with a budget of all candidates none is left, and a fold where there is none, or with budget 0, gives back its input.
 -- Assumes nothing.
 use Prim.Native.Nat.{ℕ, _≤_}
 use mathlib.Core.Path.{_≡_}
-use mathlib.Core.List.{List, List·Memᴰ, List·Memᴰ·not-nil}
+use mathlib.Core.List.{List, List·Memᴰ, List·Memᴰ·not-nil, Memᴰ·map}
 use lib.ListN.{length, drop, drop-of-length-le}
 use Rattle.rule.specs.Lists.{Graph, CandidateSet, Counts, Listing}
 use Rattle.rule.specs.Fold.{Rule, Item, Entrance, Applied}
@@ -20,11 +20,17 @@ none-left {b = b} {l = l} L M g a k h s t d =
     let m : List·Memᴰ s (drop b l) = rw q at (remaining-listed L M g a .holds s .1 (t, d)) in
     List·Memᴰ·not-nil (rw (drop-of-length-le l h) at m)
 
+no-item-changes-nothing : {C : CandidateSet} {R : Rule} {E E′ : Graph} {c c′ : Counts} {b : ℕ} (a : Applied C R E c b E′ c′)
+    → ((i : Item) → List·Memᴰ i (a .items) → ⊥) → Same E′ E c′ c
+no-item-changes-nothing a none = record {
+  edges = λ u v. (λ e. a .edges u v .0 e .0, λ e. a .edges u v .1 (e, λ i m. absurd (none i m)));
+  counts = λ v. a .untouched v (λ i m. absurd (none i m));
+}
+
 -- a fold where there is no candidate gives back its input
 pub nothing-changes : {C : CandidateSet} {R : Rule} {E E′ : Graph} {c c′ : Counts} {b : ℕ} → ((s t : ℕ) → C E s t → ⊥) → Applied C R E c b E′ c′ → Same E′ E c′ c
-nothing-changes n a =
-    let none : (i : Item) → List·Memᴰ i (a .items) → ⊥ = λ i m. n (i .entrance) (i .exit) (a .fit i m .candidate) in
-    record {
-      edges = λ u v. (λ e. a .edges u v .0 e .0, λ e. a .edges u v .1 (e, λ i m. absurd (none i m)));
-      counts = λ v. a .untouched v (λ i m. absurd (none i m));
-    }
+nothing-changes n a = no-item-changes-nothing a (λ i m. n (i .entrance) (i .exit) (a .fit i m .candidate))
+
+-- so does a fold with budget 0
+pub budget-zero : {C : CandidateSet} {R : Rule} {E E′ : Graph} {c c′ : Counts} → Applied C R E c 0 E′ c′ → Same E′ E c′ c
+budget-zero a = no-item-changes-nothing a (λ i m. List·Memᴰ·not-nil (rw (a .first) at (Memᴰ·map (λ (x : Item). x .entrance) m)))

@@ -32,7 +32,7 @@ pub record ScoreLaws (score : Counts → List ℕ → ℕ) : Type 0 where
   -- it depends on the path's own counts alone
   pub own : {c d : Counts} (l : List ℕ) → ((v : ℕ) → List·Memᴰ v l → c v ≡ d v) → score c l ≡ score d l
   -- a path no better than the bare edge has only counts of 0
-  pub bare : {c : Counts} (l : List ℕ) → score c l ≤ score c [] → (v : ℕ) → List·Memᴰ v l → c v ≡ 0
+  pub bare : (c : Counts) (l : List ℕ) → score c l ≤ score c [] → (v : ℕ) → List·Memᴰ v l → c v ≡ 0
 
 -- E′ is E with the arm of s, t folded
 abbrev pub OneFolded : Graph → ℕ → ℕ → List ℕ → Graph → Type 0
