@@ -6,10 +6,10 @@ use mathlib.Core.List.{List}
 use lib.ListN.{length}
 use Rattle.bubble.specs.Superbubble.{Interior, Superbubble}
 use Rattle.bubble.proofs.Number.{Below}
-use Rattle.rule.specs.Lists.{Graph, CandidateSet, Counts, Listing, total}
+use Rattle.rule.specs.Lists.{Graph, CandidateSet, Counts, Listing, total, Same}
 use Rattle.rule.specs.Fold.{Rule, NoCycle, Candidate, Entrance, first-takes-all, Folded, InTurn, budgets-sum}
 use Rattle.rule.specs.Laws.{RuleLaws, CandidateLaws}
-use Rattle.rule.proofs.Coincide.{Same, applied-same}
+use Rattle.rule.proofs.Coincide.{applied-same}
 use Rattle.rule.proofs.Budgets.{in-turn-applied}
 use Rattle.rule.proofs.Total.{total-kept}
 use Rattle.rule.proofs.Ends.{none-left, nothing-changes}

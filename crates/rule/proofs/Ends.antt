@@ -4,12 +4,11 @@ use Prim.Native.Nat.{ℕ, _≤_}
 use mathlib.Core.Path.{_≡_}
 use mathlib.Core.List.{List, List·Memᴰ, List·Memᴰ·not-nil, Memᴰ·map}
 use lib.ListN.{length, drop, drop-of-length-le}
-use Rattle.rule.specs.Lists.{Graph, CandidateSet, Counts, Listing}
+use Rattle.rule.specs.Lists.{Graph, CandidateSet, Counts, Listing, Same}
 use Rattle.rule.specs.Fold.{Rule, Item, Entrance, Applied}
 use Rattle.rule.specs.Laws.{RuleLaws, CandidateLaws}
 use Rattle.rule.proofs.Listings.{listing-unique}
 use Rattle.rule.proofs.Remaining.{remaining-listed}
-use Rattle.rule.proofs.Coincide.{Same}
 
 -- where the budget reaches the number of candidates, no candidate is left
 pub none-left : {G : Graph → Type 0} {C : CandidateSet} {R : Rule} {E E′ : Graph} {c c′ : Counts} {b : ℕ} {l : List ℕ} → CandidateLaws G C

@@ -10,11 +10,10 @@ use lib.ListN.{length, take, getD, length-take, length-drop}
 use lib.Seq.{take-add, take-length, ext-getD}
 use Rattle.table.specs.Table.{vertices, row, In, Edge, Rises, WellFormed, countSum}
 use Rattle.table.proofs.RowLaws.{row-lies}
-use Rattle.rule.specs.Lists.{Rising, Rising.empty, Rising.first, total}
+use Rattle.rule.specs.Lists.{Rising, Rising.empty, Rising.first, total, Same}
 use Rattle.rule.specs.Tables.{count-of}
 use Rattle.rule.proofs.Listings.{rising-unique, getD-in, place-of}
 use Rattle.rule.proofs.Sums.{total-first}
-use Rattle.rule.proofs.Coincide.{Same}
 
 rises-tail : (x : ℕ) (l : List ℕ) → Rises (x ∷ l) → Rises l
 rises-tail x l h k b = rw add-one (rw add-one at (h (suc k) (omega arith)))

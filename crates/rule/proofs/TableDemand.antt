@@ -8,11 +8,11 @@ use Rattle.bubble.specs.Superbubble.{Interior, Superbubble}
 use Rattle.bubble.proofs.Number.{Below}
 use Rattle.table.specs.Table.{vertices, Edge, WellFormed, Counted, countSum}
 use Rattle.table.proofs.RowLaws.{edge-below}
-use Rattle.rule.specs.Lists.{Graph, CandidateSet, Listing, total}
+use Rattle.rule.specs.Lists.{Graph, CandidateSet, Listing, total, Same}
 use Rattle.rule.specs.Fold.{Rule, NoCycle, Candidate, Entrance, first-takes-all, InTurn, InTurn.once, InTurn.then, budgets-sum}
 use Rattle.rule.specs.Laws.{RuleLaws, CandidateLaws}
 use Rattle.rule.specs.Tables.{count-of, SameSize, TableFolded, TablesInTurn, TablesInTurn.once, TablesInTurn.then}
-use Rattle.rule.proofs.Coincide.{Same, folded-same}
+use Rattle.rule.proofs.Coincide.{folded-same}
 use Rattle.rule.proofs.BestLaws.{first-takes-all-laws}
 use Rattle.rule.proofs.Candidates.{candidate-laws}
 use Rattle.rule.proofs.Demand.{as-once, total-stays, gives-back, none-with-interior}

@@ -1,6 +1,7 @@
 -- What the fold rule speaks of: graphs and counts, listings, sums, and what follows what on a list.
 -- Assumes nothing.
 use Prim.Native.Nat.{ℕ, zero, suc, _+_, _<_}
+use mathlib.Core.Path.{_≡_}
 use mathlib.Core.Logic.{_↔_}
 use mathlib.Core.List.{List, [], _∷_, List·Memᴰ}
 
@@ -15,6 +16,11 @@ CandidateSet = Graph → ℕ → ℕ → Type 0
 -- the reads on each vertex
 abbrev pub Counts : Type 0
 Counts = ℕ → ℕ
+
+-- two graphs with counts are the same: the same edges and the same counts
+pub record Same (E E′ : Graph) (c c′ : Counts) : Type 0 where
+  pub edges : (u v : ℕ) → E u v ↔ E′ u v
+  pub counts : (v : ℕ) → c v ≡ c′ v
 
 -- each entry is smaller than all that come after it
 pub data Rising : List ℕ → Type 0 where
