@@ -24,6 +24,7 @@ pub mod Coincide
 pub mod Total
 pub mod Ends
 pub mod NewRows
+pub mod ByNumber
 -- document 01's rule and its candidates are lawful
 pub mod Choice
 pub mod Through
