@@ -1,0 +1,3 @@
+pub mod LaidRows
+pub mod StayingLaws
+pub mod TableLaws
