@@ -1,3 +1,4 @@
+pub mod Determined
 pub mod LaidRows
 pub mod StayingLaws
 pub mod TableLaws

@@ -26,6 +26,31 @@ row-more front list list′ new at r long put =
 abbrev pub newRow : List ℕ → List ℕ → List ℕ → ℕ → List ℕ
 newRow starts targets next v = staying (vertices starts) (getD next v 0) (row starts targets v)
 
+-- the edges of the new table are those that stay
+new-edges : (starts targets next : List ℕ)
+    → EdgesStay starts targets next (begins (newRow starts targets next) (suc (vertices starts))) (laid (newRow starts targets next) (vertices starts))
+new-edges starts targets next =
+    let rows = newRow starts targets next in
+    let n = vertices starts in
+    record {
+      whole =
+          λ u e v.
+          let all = stays-whole n (getD next u 0) (row starts targets u) e in (
+            λ i. let inside = edge-laid rows n u v .0 i in record { vertex = inside .0; listed = rw all at (inside .1) },
+            λ i. edge-laid rows n u v .1 (i .vertex, rw all (i .listed)),
+          );
+      one =
+          λ u h l v.
+          let only = stays-one n (getD next u 0) (row starts targets u) l in (
+            λ i. in-one v (getD next u 0) .0 (rw only at (edge-laid rows n u v .0 i .1)),
+            λ e. edge-laid rows n u v .1 (h, rw only (in-one v (getD next u 0) .1 e)),
+          );
+      none =
+          λ u h v i.
+          let nothing = rw (stays-none n (getD next u 0) (row starts targets u) h) at (edge-laid rows n u v .0 i .1) in
+          not-suc-le-zero (nothing .inside);
+    }
+
 -- the new rows of the vertices below v stand at the front of the targets, and their starts at the front of the starts
 pub record Passed (starts targets next out-starts out-targets out-starts′ out-targets′ : List ℕ) (at v : ℕ) : Type 0 where
   pub passed : v ≤ vertices starts
@@ -45,30 +70,6 @@ module _ {starts targets next out-starts out-targets : List ℕ} (ready : TableR
       let lies = row-lies starts targets (ready .well-formed .starts-fit) v h in
       let long : getD starts v 0 + length (row starts targets v) ≡ getD starts (v + 1) 0 = simp (length-take, length-drop) (omega (arith, lies)) in
       omega (arith, stays-few (vertices starts) (getD next v 0) (row starts targets v) (λ l. ready .next-edge v h l .listed))
-
-  -- the new table's edges, where its starts are those of its rows
-  new-edges : EdgesStay starts targets next (begins (newRow starts targets next) (suc (vertices starts))) (laid (newRow starts targets next) (vertices starts))
-  new-edges =
-      let rows = newRow starts targets next in
-      let n = vertices starts in
-      record {
-        whole =
-            λ u e v.
-            let all = stays-whole n (getD next u 0) (row starts targets u) e in (
-              λ i. let inside = edge-laid rows n u v .0 i in record { vertex = inside .0; listed = rw all at (inside .1) },
-              λ i. edge-laid rows n u v .1 (i .vertex, rw all (i .listed)),
-            );
-        one =
-            λ u h l v.
-            let only = stays-one n (getD next u 0) (row starts targets u) l in (
-              λ i. in-one v (getD next u 0) .0 (rw only at (edge-laid rows n u v .0 i .1)),
-              λ e. edge-laid rows n u v .1 (h, rw only (in-one v (getD next u 0) .1 e)),
-            );
-        none =
-            λ u h v i.
-            let nothing = rw (stays-none n (getD next u 0) (row starts targets u) h) at (edge-laid rows n u v .0 i .1) in
-            not-suc-le-zero (nothing .inside);
-      }
 
   module _ {out-starts′ out-targets′ : List ℕ} {at v : ℕ} (done : Passed starts targets next out-starts out-targets out-starts′ out-targets′ at v) where
     pub place-most : at ≤ length targets
@@ -139,5 +140,5 @@ module _ {starts targets next out-starts out-targets : List ℕ} (ready : TableR
               (λ u l. stays-rising n (getD next u 0) (row starts targets u) (ok .rows-rise u l));
           as-many = begins-length rows (suc n) ∙ omega (arith, ok .some);
           fewer = few;
-          edges = new-edges;
+          edges = new-edges starts targets next;
         }
