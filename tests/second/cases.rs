@@ -5,77 +5,117 @@ use crate::damages::{self, OF_IMAGE, OF_TABLE};
 use crate::graphs::{self, TWELVE};
 use crate::image::{self, Room};
 use crate::limits;
-use crate::operations::{Operation, LONGEST_STREAM};
+use crate::operations::{self, Operation, LONGEST_IMAGE};
+use crate::parallel;
 use crate::random::Random;
+use crate::runs::{self, ProgramRun};
 use crate::table::{Table, LARGEST_SUM};
+use crate::worked;
 
 pub struct Case {
     pub number: usize,
     /// What is asked, in words.
     pub name: String,
-    pub operation: Operation,
-    /// The first line of the answer, where document 01 names it itself.
-    pub first_line: Option<&'static str>,
-    pub by: By,
+    pub asked: Asked,
+    /// How the answer begins, or all of it, where it was written by hand.
+    pub by_hand: Option<Vec<u8>>,
+}
+
+pub enum Asked {
+    /// A question to `batch`, which takes many in one run.
+    Batch(Operation),
+    /// A run of another program.
+    Program(ProgramRun),
 }
 
 impl Case {
-    /// What the program is handed for this case.
+    /// What the program is handed on standard input for this case.
     pub fn input(&self) -> Vec<u8> {
-        match (&self.by, &self.operation) {
-            (By::Show { .. }, Operation::Show { stream }) => stream.clone(),
-            _ => self.operation.question(),
+        match &self.asked {
+            Asked::Batch(operation) => operation.question(),
+            Asked::Program(run) => run.stream.clone(),
         }
     }
 
-    /// The name of the program.
-    pub fn program(&self) -> &'static str {
-        match self.by {
-            By::Batch => "batch",
-            By::Show { .. } => "show",
+    pub fn operation(&self) -> Option<&Operation> {
+        match &self.asked {
+            Asked::Batch(operation) => Some(operation),
+            Asked::Program(_) => None,
+        }
+    }
+
+    /// What is asked and of whom, in words.
+    pub fn title(&self) -> String {
+        let asked = match &self.asked {
+            Asked::Batch(operation) => format!("{} by batch", operation.name()),
+            Asked::Program(run) => run.command(),
+        };
+        format!("case {}, {asked}: {}", self.number, self.name)
+    }
+
+    /// Whether the program that is asked knows what is asked.
+    pub fn is_compared(&self) -> bool {
+        match &self.asked {
+            Asked::Batch(operation) => operations::COMPARED.contains(&operation.name()),
+            Asked::Program(run) => runs::COMPARED.contains(&run.program),
         }
     }
 }
-
-/// The program that is asked.
-#[derive(Clone, Copy)]
-pub enum By {
-    /// Many cases to one run.
-    Batch,
-    /// One run for the case; its stream is handed over in pieces of so many bytes.
-    Show { piece: usize },
-}
-
-/// More bytes than any stream has: it is handed over in one piece.
-const WHOLE: usize = usize::MAX;
 
 pub fn all(seed: u64) -> Vec<Case> {
     let mut cases = Cases { seed, list: Vec::new() };
-    for (first_line, name, operation) in limits::all(seed) {
-        cases.add(name, |_| operation);
-        cases.list.last_mut().unwrap().first_line = Some(first_line);
-    }
+    cases.by_hand();
     cases.every_small_table();
     cases.well_formed();
     cases.damaged_tables();
     cases.damaged_images();
     cases.j_cut_and_changed();
     cases.noise();
-    cases.runs_of_show();
+    cases.superbubbles();
+    cases.folds();
+    cases.programs();
     cases.list
 }
 
-struct Cases {
-    seed: u64,
+/// The answers of the second program.
+pub fn answers(cases: &[Case]) -> Vec<Vec<u8>> {
+    parallel::each(cases, |case| match &case.asked {
+        Asked::Batch(operation) => operation.answer(),
+        Asked::Program(run) => run.text().into(),
+    })
+}
+
+/// The cases so far. The makers stand here and in superbubble_cases.rs, fold_cases.rs and
+/// program_cases.rs.
+pub struct Cases {
+    pub seed: u64,
     list: Vec<Case>,
 }
 
 impl Cases {
-    fn add(&mut self, name: impl Into<String>, make: impl FnOnce(&mut Random) -> Operation) {
+    pub fn add(&mut self, name: impl Into<String>, make: impl FnOnce(&mut Random) -> Operation) {
+        let (name, operation) = (name.into(), make(&mut self.next_random()));
+        assert!(operation.fits(), "batch does not take it: {name}");
+        self.push(name, Asked::Batch(operation));
+    }
+
+    pub fn add_run(&mut self, name: impl Into<String>, run: ProgramRun) {
+        self.push(name.into(), Asked::Program(run));
+    }
+
+    fn push(&mut self, name: String, asked: Asked) {
         let number = self.list.len();
-        let operation = make(&mut Random::of_case(self.seed, number));
-        let name = name.into();
-        self.list.push(Case { number, name, operation, first_line: None, by: By::Batch });
+        self.list.push(Case { number, name, asked, by_hand: None });
+    }
+
+    /// Says how the answer to the last case begins.
+    pub fn begins(&mut self, answer: impl Into<Vec<u8>>) {
+        self.list.last_mut().unwrap().by_hand = Some(answer.into());
+    }
+
+    /// The random numbers of the case that is to be added.
+    pub fn next_random(&self) -> Random {
+        Random::of_case(self.seed, self.list.len())
     }
 
     /// A table, to be checked and to be written.
@@ -96,13 +136,19 @@ impl Cases {
         self.stream(name, |random| image::of_table(&make(random)));
     }
 
-    /// A stream for a run of `show`.
-    fn run(&mut self, piece: usize, name: &str, make: impl Fn(&mut Random) -> Vec<u8>) {
-        self.add(name, |random| Operation::Show { stream: make(random) });
-        self.list.last_mut().unwrap().by = By::Show { piece };
-    }
-
     // ---- the makers
+
+    /// The limits, and what document 01 works out itself.
+    fn by_hand(&mut self) {
+        for (first_line, name, operation) in limits::all(self.seed) {
+            self.add(name, |_| operation);
+            self.begins(format!("{first_line}\n"));
+        }
+        for worked in worked::all() {
+            self.add(worked.name, |_| worked.operation);
+            self.begins(worked.answer);
+        }
+    }
 
     /// Every table with up to three starts of 0, 1, 2 or 2^32 - 1 and up to two targets of 0, 1 or 2.
     fn every_small_table(&mut self) {
@@ -171,42 +217,6 @@ impl Cases {
             self.both("a table of small numbers", small_numbers);
         }
     }
-
-    /// Runs of `show` itself: the examples, streams longer than it reads, and some of each other kind.
-    fn runs_of_show(&mut self) {
-        let j = image::of_table(&graphs::j());
-        let largest = |random: &mut Random| image::of_table(&graphs::largest(random));
-        for graph in &TWELVE {
-            self.run(WHOLE, graph.name, |_| image::of_table(&graph.table()));
-        }
-        self.run(WHOLE, "an empty stream", |_| Vec::new());
-        for piece in [1, 7, 13, 132] {
-            self.run(piece, &format!("J in pieces of {piece}"), |_| j.clone());
-        }
-        for piece in [WHOLE, 1_000, 4_096] {
-            self.run(piece, &format!("the largest image in pieces of {piece}"), largest);
-        }
-        for length in [LONGEST_STREAM, LONGEST_STREAM + 1, 60_000, 65_536, 200_000, 1_000_000] {
-            let name = |what: &str| format!("{what}, with {length} bytes");
-            self.run(WHOLE, &name("the largest image"), |random| resized(largest(random), length));
-            self.run(WHOLE, &name("zeros"), |_| vec![0; length]);
-            self.run(WHOLE, &name("J"), |_| resized(j.clone(), length));
-            for damage in OF_IMAGE.iter().filter(|damage| damage.name.starts_with("header says")) {
-                self.run(WHOLE, &name(&format!("J, {}", damage.name)), |random| {
-                    let mut stream = resized(j.clone(), length);
-                    (damage.apply)(&mut stream, random);
-                    stream
-                });
-            }
-        }
-        for _ in 0..15 {
-            self.run(WHOLE, "a well-formed table", |random| image::of_table(&graphs::any(random)));
-            self.run(50, "a damaged image in pieces of 50", |random| {
-                let damage = random.place(OF_TABLE.len() + OF_IMAGE.len());
-                damages::damaged_image(random, &[damage])
-            });
-        }
-    }
 }
 
 // ---- what the makers share
@@ -216,7 +226,7 @@ fn write(table: Table, random: &mut Random) -> Operation {
     let length = image::of_table(&table).len();
     let more = length + random.between(2, 100);
     let room = random.one_of(&[length, length, length, length + 1, more, length - 1, 0]);
-    Operation::Write { room: room.min(65_536), table }
+    Operation::Write { room: room.min(LONGEST_IMAGE), table }
 }
 
 /// Reading with room enough in most cases, by what the header of the stream says; where there is no
@@ -228,7 +238,13 @@ fn read(stream: Vec<u8>, random: &mut Random) -> Operation {
     };
     let n = said(5).filter(|&n| n < 4_000).unwrap_or(5);
     let m = said(9).filter(|&m| m < 9_000).unwrap_or(5);
-    let mut room = Room { starts: n + 1, targets: m, counts: n };
+    Operation::Read { room: room(random, n, m), stream }
+}
+
+/// Room for a table of n vertices and m edges: enough in most cases, or too little of one kind, or
+/// none.
+pub fn room(random: &mut Random, n: usize, m: usize) -> Room {
+    let mut room = Room::of(n, m);
     match random.between(0, 9) {
         0 => room.starts -= 1,
         1 => room.targets = m.saturating_sub(1),
@@ -241,7 +257,7 @@ fn read(stream: Vec<u8>, random: &mut Random) -> Operation {
         }
         _ => {}
     }
-    Operation::Read { room, stream }
+    room
 }
 
 /// All words of the letters, up to the length.
@@ -261,7 +277,8 @@ fn words(letters: &[u32], length: usize) -> Vec<Vec<u32>> {
     all
 }
 
-fn resized(mut stream: Vec<u8>, length: usize) -> Vec<u8> {
+/// The stream cut to a length, or with zeros up to it.
+pub fn resized(mut stream: Vec<u8>, length: usize) -> Vec<u8> {
     stream.resize(length, 0);
     stream
 }

@@ -1,6 +1,6 @@
 //! The examples: the twelve graphs A to L of document 01 as images, one file each.
 
-use crate::compare::Fault;
+use crate::count::Fault;
 use crate::graphs::{Graph, TWELVE};
 use crate::image;
 use std::fs;

@@ -4,57 +4,74 @@ use crate::random::Random;
 use crate::table::{Table, LARGEST_SUM, MOST_EDGES, MOST_VERTICES};
 use std::collections::BTreeSet;
 
+pub type Edge = (usize, usize);
+
 pub struct Graph {
     pub name: &'static str,
-    edges: &'static [(usize, u32)],
+    edges: &'static [Edge],
     counts: &'static [u64],
+    /// Its superbubbles, as document 01 prints them.
+    pub list: &'static [Edge],
 }
 
 const fn graph(
     name: &'static str,
-    edges: &'static [(usize, u32)],
+    edges: &'static [Edge],
     counts: &'static [u64],
+    list: &'static [Edge],
 ) -> Graph {
-    Graph { name, edges, counts }
+    Graph { name, edges, counts, list }
 }
 
 /// The graphs of document 01. J, K and L have the counts of its folds; B has the largest sum.
 pub const TWELVE: [Graph; 12] = [
-    graph("A", &[], &[]),
-    graph("B", &[], &[LARGEST_SUM]),
-    graph("C", &[(0, 1)], &[3, 1]),
-    graph("D", &[(0, 1), (0, 2), (1, 3), (2, 3)], &[9, 4, 5, 9]),
-    graph("E", &[(0, 1), (1, 0)], &[2, 7]),
-    graph("F", &[(0, 1), (1, 2), (2, 0)], &[6, 0, 6]),
-    graph("G", &[(0, 1), (1, 1)], &[1, 8]),
-    graph("H", &[(0, 1), (0, 2), (1, 3), (2, 3), (3, 0)], &[9, 4, 5, 9]),
-    graph("I", &[(0, 1), (1, 2), (2, 0), (2, 4), (3, 0)], &[5, 5, 5, 2, 3]),
+    graph("A", &[], &[], &[]),
+    graph("B", &[], &[LARGEST_SUM], &[]),
+    graph("C", &[(0, 1)], &[3, 1], &[(0, 1)]),
+    graph("D", &[(0, 1), (0, 2), (1, 3), (2, 3)], &[9, 4, 5, 9], &[(0, 3)]),
+    graph("E", &[(0, 1), (1, 0)], &[2, 7], &[]),
+    graph("F", &[(0, 1), (1, 2), (2, 0)], &[6, 0, 6], &[(0, 1), (1, 2), (2, 0)]),
+    graph("G", &[(0, 1), (1, 1)], &[1, 8], &[]),
+    graph("H", &[(0, 1), (0, 2), (1, 3), (2, 3), (3, 0)], &[9, 4, 5, 9], &[(3, 0)]),
+    graph("I", &[(0, 1), (1, 2), (2, 0), (2, 4), (3, 0)], &[5, 5, 5, 2, 3], &[(0, 1), (1, 2)]),
     graph(
         "J",
         &[(0, 1), (0, 5), (1, 2), (1, 3), (2, 4), (3, 4), (4, 6), (5, 6)],
         &[10, 4, 3, 2, 4, 12, 10],
+        &[(0, 6), (1, 4)],
     ),
     graph(
         "K",
         &[(0, 1), (0, 2), (1, 3), (2, 3), (3, 4), (3, 5), (4, 6), (5, 6)],
         &[5, 2, 2, 5, 1, 4, 5],
+        &[(0, 3), (3, 6)],
     ),
-    graph("L", &[(0, 1), (0, 2), (1, 2)], &[3, 0, 3]),
+    graph("L", &[(0, 1), (0, 2), (1, 2)], &[3, 0, 3], &[(0, 2)]),
 ];
 
 impl Graph {
     pub fn table(&self) -> Table {
-        let mut rows = vec![BTreeSet::new(); self.counts.len()];
-        for &(from, to) in self.edges {
-            rows[from].insert(to);
-        }
-        of_rows(&rows, self.counts.to_vec())
+        of_edges(self.edges, self.counts.to_vec())
     }
+}
+
+/// The graph of document 01 with this letter.
+pub fn lettered(letter: &str) -> &'static Graph {
+    TWELVE.iter().find(|graph| graph.name == letter).unwrap()
 }
 
 /// Graph J, document 01's worked example.
 pub fn j() -> Table {
-    TWELVE[9].table()
+    lettered("J").table()
+}
+
+/// The table with as many vertices as there are counts, and these edges in any order.
+pub fn of_edges(edges: &[Edge], counts: Vec<u64>) -> Table {
+    let mut rows = vec![BTreeSet::new(); counts.len()];
+    for &(from, to) in edges {
+        rows[from].insert(to as u32);
+    }
+    of_rows(&rows, counts)
 }
 
 fn of_rows(rows: &[BTreeSet<u32>], counts: Vec<u64>) -> Table {
@@ -102,7 +119,7 @@ pub fn to_damage(random: &mut Random) -> Table {
 }
 
 /// Counts whose sum is allowed: all 0, small ones, large ones, or some that reach the largest sum.
-fn counts(random: &mut Random, n: usize) -> Vec<u64> {
+pub fn counts(random: &mut Random, n: usize) -> Vec<u64> {
     let most = random.one_of(&[0, 1, 100, LARGEST_SUM / n.max(1) as u64]);
     let mut counts: Vec<u64> = (0..n).map(|_| random.any() % (most + 1)).collect();
     if n > 0 && random.between(0, 3) == 0 {

@@ -6,7 +6,7 @@ use crate::table::{number_given, Table, MOST_EDGES, MOST_VERTICES};
 pub const HEADER: usize = 13;
 pub const LARGEST: usize = 57_361;
 
-/// How long the output slices are that reading is lent.
+/// How long the output slices are that reading and folding are lent.
 #[derive(Clone, Copy)]
 pub struct Room {
     pub starts: usize,
@@ -31,14 +31,17 @@ pub fn of_table(table: &Table) -> Vec<u8> {
 
 /// Starts, targets and counts, one after the other, little-endian.
 pub fn append_table(bytes: &mut Vec<u8>, table: &Table) {
-    for start in &table.starts {
-        bytes.extend(start.to_le_bytes());
-    }
-    for target in &table.targets {
-        bytes.extend(target.to_le_bytes());
-    }
+    append_numbers(bytes, &table.starts);
+    append_numbers(bytes, &table.targets);
     for count in &table.counts {
         bytes.extend(count.to_le_bytes());
+    }
+}
+
+/// Numbers of 32 bits, one after the other, little-endian.
+pub fn append_numbers(bytes: &mut Vec<u8>, numbers: &[u32]) {
+    for number in numbers {
+        bytes.extend(number.to_le_bytes());
     }
 }
 
@@ -69,13 +72,17 @@ fn u64_at(bytes: &[u8], place: usize) -> u64 {
 pub fn table_in(stream: &[u8]) -> Table {
     let Header { n, m, .. } = header(stream);
     let (n, m) = (n as usize, m as usize);
-    let starts = HEADER;
-    let targets = starts + 4 * (n + 1);
-    let counts = targets + 4 * m;
+    slices_in(&stream[HEADER..], Room::of(n, m))
+}
+
+/// Slices of these lengths, one after the other, at the front of some bytes.
+pub fn slices_in(bytes: &[u8], room: Room) -> Table {
+    let targets = 4 * room.starts;
+    let counts = targets + 4 * room.targets;
     Table {
-        starts: (0..=n).map(|v| u32_at(stream, starts + 4 * v)).collect(),
-        targets: (0..m).map(|e| u32_at(stream, targets + 4 * e)).collect(),
-        counts: (0..n).map(|v| u64_at(stream, counts + 8 * v)).collect(),
+        starts: (0..room.starts).map(|place| u32_at(bytes, 4 * place)).collect(),
+        targets: (0..room.targets).map(|place| u32_at(bytes, targets + 4 * place)).collect(),
+        counts: (0..room.counts).map(|place| u64_at(bytes, counts + 8 * place)).collect(),
     }
 }
 
@@ -114,8 +121,18 @@ pub fn faults_of_reading(stream: &[u8], room: Option<Room>) -> Vec<u32> {
 }
 
 impl Room {
-    fn is_below(self, n: usize, m: usize) -> bool {
-        self.starts < n + 1 || self.targets < m || self.counts < n
+    /// What a table of n vertices and m edges needs.
+    pub fn of(n: usize, m: usize) -> Room {
+        Room { starts: n + 1, targets: m, counts: n }
+    }
+
+    /// Whether it is too little for a table of n vertices and m edges.
+    pub fn is_below(self, n: usize, m: usize) -> bool {
+        !Room::of(n, m).is_within(self)
+    }
+
+    pub fn is_within(self, other: Room) -> bool {
+        self.starts <= other.starts && self.targets <= other.targets && self.counts <= other.counts
     }
 }
 

@@ -1,10 +1,11 @@
 //! Cases that document 01 names itself, limits and one past them, with answers written by hand: they
 //! hold the second program to the document as well.
 
-use crate::graphs::{self, TWELVE};
+use crate::graphs::{self, lettered};
 use crate::image::{self, Room};
 use crate::operations::Operation;
 use crate::random::Random;
+use crate::shapes;
 use crate::table::{Table, LARGEST_SUM, MOST_EDGES, MOST_VERTICES};
 
 /// The first line of the answer, the case in words, and what is asked.
@@ -20,6 +21,9 @@ pub fn all(seed: u64) -> Vec<Limit> {
     all.push(("check 2 counted 2", "m = 8,193", check_of(&too_wide)));
     all.extend(writes(&largest, &too_wide));
     all.extend(reads(&largest, &too_wide));
+    all.extend(lists(&largest, &too_wide));
+    all.extend(judges(&too_wide));
+    all.extend(folds(&too_wide));
     all
 }
 
@@ -66,7 +70,7 @@ fn sums() -> Vec<Limit> {
 
 fn writes(largest: &Table, too_wide: &Table) -> Vec<Limit> {
     let write = |room, table: &Table| Operation::Write { room, table: table.clone() };
-    let (a, j) = (TWELVE[0].table(), graphs::j());
+    let (a, j) = (lettered("A").table(), graphs::j());
     vec![
         ("wrote 0 133", "J, room 133", write(133, &j)),
         ("wrote 8 0", "J, room 132", write(132, &j)),
@@ -84,7 +88,7 @@ fn reads(largest: &Table, too_wide: &Table) -> Vec<Limit> {
         let room = Room { starts, targets, counts };
         Operation::Read { room, stream: stream.into() }
     };
-    let a = image::of_table(&TWELVE[0].table());
+    let a = image::of_table(&lettered("A").table());
     let j = image::of_table(&graphs::j());
     let largest = image::of_table(largest);
     let too_wide = image::of_table(too_wide);
@@ -103,6 +107,107 @@ fn reads(largest: &Table, too_wide: &Table) -> Vec<Limit> {
         ("read 8 0 0", "the largest image, no room", read(2_048, 8_192, 2_048, &largest)),
         ("read 12 0 0", "the largest image and a byte", read(2_049, 8_192, 2_048, &one_more)),
         ("read 2 0 0", "m = 8,193", read(4_096, 16_384, 4_096, &too_wide)),
+    ]
+}
+
+fn lists(largest: &Table, too_wide: &Table) -> Vec<Limit> {
+    let list = |room, table: &Table| Operation::List { room, table: table.clone() };
+    let (a, j) = (lettered("A").table(), graphs::j());
+    let no_edges = shapes::Shape { n: 2_048, edges: vec![] }.counted(0);
+    let too_long = shapes::chain(2_049).counted(0);
+    let overcounted = Table { counts: vec![u64::MAX; 3], ..j.clone() };
+    vec![
+        ("list 0 2", "J, room 14", list(14, &j)),
+        ("list 8 0", "J, room 13", list(13, &j)),
+        ("list 8 0", "J, room for what is found alone", list(4, &j)),
+        ("list 8 0", "J, room 0", list(0, &j)),
+        ("list 0 2", "J, room 8,192", list(8_192, &j)),
+        ("list 0 2", "J, its counts are not looked at", list(14, &overcounted)),
+        ("list 0 0", "A, room 0", list(0, &a)),
+        ("list 0 0", "2,048 vertices without an edge", list(4_096, &no_edges)),
+        ("list 0 2047", "a chain of 2,048", list(4_096, &shapes::chain(2_048).counted(0))),
+        ("list 8 0", "a chain, room 4,095", list(4_095, &shapes::chain(2_048).counted(0))),
+        ("list 1 0", "a chain of 2,049", list(8_192, &too_long)),
+        ("list 2 0", "m = 8,193", list(8_192, too_wide)),
+        ("list 0 3", "a cycle of 3", list(6, &shapes::ring(3).counted(0))),
+        ("list 0 0", "a cycle of 2", list(6, &shapes::ring(2).counted(0))),
+        ("list 0 0", "a cycle of 1", list(6, &shapes::ring(1).counted(0))),
+        ("list 0 2048", "a cycle of 2,048", list(4_096, &shapes::ring(2_048).counted(0))),
+        ("list 8 0", "a cycle, room 4,095", list(4_095, &shapes::ring(2_048).counted(0))),
+        // the last vertex of the chain has but one edge
+        ("list 0 1", "a comb of 2,048", list(4_096, &shapes::comb(2_048).counted(0))),
+        ("list 0 1", "a fan of 2,048", list(4_096, &shapes::fan(2_048).counted(0))),
+        // the ladder, and six edges behind it
+        ("list 0 7", "n = 2,048, m = 8,192", list(4_096, &shapes::ladder().counted(0))),
+        ("list 0 20", "a nest of 20", list(120, &shapes::nests(20, 1).counted(0))),
+        ("list 8 0", "the largest table, room 4,095", list(4_095, largest)),
+    ]
+}
+
+fn judges(too_wide: &Table) -> Vec<Limit> {
+    let judge = |s, t, table: &Table| Operation::Judge { pair: (s, t), table: table.clone() };
+    let (a, j) = (lettered("A").table(), graphs::j());
+    let ring = shapes::ring(2_048).counted(0);
+    let nest = shapes::nests(20, 1).counted(0);
+    vec![
+        ("judge 0 1 7", "J, the pair 0, 6", judge(0, 6, &j)),
+        ("judge 0 0 0", "J, s = t", judge(6, 6, &j)),
+        ("judge 13 0 0", "J, s = 7", judge(7, 0, &j)),
+        ("judge 13 0 0", "J, t = 7", judge(0, 7, &j)),
+        ("judge 13 0 0", "J, s = t = 7", judge(7, 7, &j)),
+        ("judge 13 0 0", "J, s = 2^32 - 1", judge(u32::MAX, 6, &j)),
+        ("judge 13 0 0", "J, t = 2^32 - 1", judge(0, u32::MAX, &j)),
+        ("judge 13 0 0", "A", judge(0, 0, &a)),
+        ("judge 0 0 0", "a cycle of 1", judge(0, 0, &shapes::ring(1).counted(0))),
+        ("judge 0 1 2", "a cycle of 2,048, its last pair", judge(2_047, 0, &ring)),
+        ("judge 0 0 0", "a cycle of 2,048, a pair further on", judge(2_047, 1, &ring)),
+        ("judge 13 0 0", "a cycle of 2,048, t = 2,048", judge(2_047, 2_048, &ring)),
+        ("judge 0 1 2048", "a fan of 2,048", judge(0, 1, &shapes::fan(2_048).counted(0))),
+        ("judge 0 1 2042", "n = 2,048, m = 8,192", judge(0, 2_041, &shapes::ladder().counted(0))),
+        ("judge 0 1 60", "a nest of 20, the outermost", judge(0, 1, &nest)),
+        ("judge 0 1 57", "a nest of 20, the next", judge(3, 4, &nest)),
+        ("judge 1 0 0", "a chain of 2,049", judge(0, 1, &shapes::chain(2_049).counted(0))),
+        ("judge 2 0 0", "m = 8,193, s = 2^32 - 1", judge(u32::MAX, 0, too_wide)),
+    ]
+}
+
+fn folds(too_wide: &Table) -> Vec<Limit> {
+    let fold = |budget, room, table: &Table| Operation::Fold { budget, room, table: table.clone() };
+    let of = |budget, table: &Table| {
+        fold(budget, Room::of(table.counts.len(), table.targets.len()), table)
+    };
+    let room = |starts, targets, counts| Room { starts, targets, counts };
+    let (a, f, j) = (lettered("A").table(), lettered("F").table(), graphs::j());
+    let one_too_large = Table { counts: vec![LARGEST_SUM, 0, 0, 0, 1, 0, 0], ..j.clone() };
+    let largest_sum = Table { counts: vec![0, 1, LARGEST_SUM - 1, 0, 0, 0, 0], ..j.clone() };
+    let nests = shapes::nests(20, 34).counted(1);
+    let bubbles = shapes::nests(1, 1_023).counted(5);
+    vec![
+        ("fold 0 1 0 2", "J, room 8, 8, 7", fold(1, room(8, 8, 7), &j)),
+        ("fold 8 0 0 0", "J, room for the result alone", fold(1, room(8, 2, 7), &j)),
+        ("fold 8 0 0 0", "J, starts too short", fold(1, room(7, 8, 7), &j)),
+        ("fold 8 0 0 0", "J, targets too short", fold(1, room(8, 7, 7), &j)),
+        ("fold 8 0 0 0", "J, counts too short", fold(1, room(8, 8, 6), &j)),
+        ("fold 0 1 0 2", "J, the most room", fold(1, room(4_096, 16_384, 4_096), &j)),
+        ("fold 0 0 0 0", "A", fold(1, room(1, 0, 0), &a)),
+        ("fold 9 0 0 0", "F", of(1, &f)),
+        ("fold 9 0 0 0", "F, budget 0", of(0, &f)),
+        ("fold 8 0 0 0", "F, counts too short", fold(1, room(4, 3, 2), &f)),
+        ("fold 9 0 0 0", "a self-loop", of(1, &shapes::ring(1).counted(0))),
+        ("fold 7 0 0 0", "J, count sum one too large", of(1, &one_too_large)),
+        // all reads stand on the kept path
+        ("fold 0 1 0 4", "J, the largest count sum", of(1, &largest_sum)),
+        ("fold 2 0 0 0", "m = 8,193", fold(1, room(4_096, 16_384, 4_096), too_wide)),
+        ("fold 0 0 0 2047", "a chain of 2,048", of(u32::MAX, &shapes::chain(2_048).counted(1))),
+        ("fold 9 0 0 0", "a cycle of 2,048", of(1, &shapes::ring(2_048).counted(1))),
+        ("fold 0 1 0 2", "a fan of 2,048", of(1, &shapes::fan(2_048).counted(1))),
+        // one vertex of each of the 510 layers, and six edges behind the exit
+        ("fold 0 1 0 517", "n = 2,048, m = 8,192", of(1, &shapes::ladder().counted(1))),
+        // down on the entrances, and up on the exits
+        ("fold 0 1 0 40", "a nest of 20", of(1, &shapes::nests(20, 1).counted(1))),
+        ("fold 0 34 0 1360", "34 nests of 20", of(34, &nests)),
+        ("fold 0 33 1 1399", "34 nests of 20, budget 33", of(33, &nests)),
+        ("fold 0 1000 23 2069", "1,023 bubbles, budget 1,000", of(1_000, &bubbles)),
     ]
 }
 

@@ -3,30 +3,52 @@
 //! it.
 //!
 //! - table.rs, image.rs: the rules and the numbers
-//! - graphs.rs, damages.rs, limits.rs, cases.rs: what is asked
-//! - operations.rs: how it is asked, and the answers that are due
-//! - programs.rs, compare.rs: the runs, and the comparison
-//! - coverage.rs, examples.rs: that the cases reach what they must, and the files of examples/
+//! - superbubbles.rs, definition.rs, quick.rs, fold.rs: superbubbles in two ways, and the fold
+//! - graphs.rs, shapes.rs, damages.rs: tables and images, good and bad
+//! - limits.rs, worked.rs: cases with answers written by hand
+//! - cases.rs, superbubble_cases.rs, fold_cases.rs, program_cases.rs: all that is asked
+//! - operations.rs, answers.rs, runs.rs, turns.rs: how it is asked, and the answers that are due
+//! - programs.rs, batch.rs, parallel.rs: the runs of the programs
+//! - compare.rs, self_test.rs, coverage.rs, examples.rs, count.rs: the comparison, and the checks that
+//!   need no program
 
+mod answers;
+mod batch;
 mod cases;
 mod compare;
+mod count;
 mod coverage;
 mod damages;
+mod definition;
 mod examples;
+mod fold;
+mod fold_cases;
 mod graphs;
 mod image;
 mod limits;
 mod operations;
+mod parallel;
+mod program_cases;
 mod programs;
+mod quick;
 mod random;
+mod runs;
+mod self_test;
+mod shapes;
+mod superbubble_cases;
+mod superbubbles;
 mod table;
+mod turns;
+mod worked;
 
+use count::Count;
 use std::io::Write;
 use std::path::Path;
 use std::process::ExitCode;
 
 const USAGE: &str = "usage:
   second compare [SEED]            compare the programs on every case; the last line is the count
+  second self-test [SEED]          try the second program alone, as `compare` does as well
   second question NUMBER [SEED]    write what a program is handed for one case
   second examples FOLDER           write the twelve graphs A to L as images
 SEED is a number; 1 where there is none.";
@@ -37,6 +59,8 @@ fn main() -> ExitCode {
     let done = match words[..] {
         ["compare"] => compare::compare(1),
         ["compare", seed] => seed.parse().map_or_else(|_| usage(), compare::compare),
+        ["self-test"] => self_test(1),
+        ["self-test", seed] => seed.parse().map_or_else(|_| usage(), self_test),
         ["question", number] => question(number, "1"),
         ["question", number, seed] => question(number, seed),
         ["examples", folder] => write_examples(folder),
@@ -52,6 +76,13 @@ fn main() -> ExitCode {
 fn usage() -> bool {
     eprintln!("{USAGE}");
     false
+}
+
+fn self_test(seed: u64) -> bool {
+    let mut count = Count::default();
+    let cases = cases::all(seed);
+    self_test::check(&cases, &cases::answers(&cases), seed, &mut count);
+    count.print()
 }
 
 fn question(number: &str, seed: &str) -> bool {

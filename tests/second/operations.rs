@@ -1,19 +1,24 @@
-//! The operations as the programs take them: for each the question that the program `batch` is handed,
-//! the answer that document 01 gives to it, and how far the answer reaches in what a program printed.
+//! The operations as the program `batch` takes them: for each the question that it is handed, and the
+//! numbers that it earns by document 01.
 //!
 //! A question is one byte, the operation; the length of the body, 32 bits; and the body. All numbers
-//! are little-endian. In an answer, raw bytes stand behind the first line: they are all the memory
-//! that was lent, as the call left it.
+//! are little-endian. What is asked of a table without its counts is handed none.
 
 use crate::image::{self, Room};
-use crate::table::{number_given, Table};
+use crate::superbubbles;
+use crate::table::Table;
 
-/// What every byte of a lent image slice is before the call, and every number of the lent output.
-const BYTE_BEFORE: u8 = 165;
-const NUMBER_BEFORE: u8 = 7;
+/// The operations that are compared now. Those that `batch` does not know yet stand in OPERATIONS
+/// alone: their cases are made and their answers are held to the definition, but nobody is asked.
+pub const COMPARED: &[&str] = &["show", "check", "write", "read"];
 
 /// The longest stream that a question has: the most that `show` reads.
 pub const LONGEST_STREAM: usize = image::LARGEST + 1;
+/// The longest slices that a question has or asks for.
+pub const MOST_ROOM: Room = Room { starts: 4_096, targets: 16_384, counts: 4_096 };
+/// The longest slices that a question asks for to be listed into, and to be written into.
+pub const LONGEST_LIST: usize = 8_192;
+pub const LONGEST_IMAGE: usize = 65_536;
 
 pub enum Operation {
     /// What `show` prints for a stream.
@@ -24,16 +29,25 @@ pub enum Operation {
     Write { room: usize, table: Table },
     /// Image reading into slices of so many numbers.
     Read { room: Room, stream: Vec<u8> },
+    /// Listing into a slice of so many numbers.
+    List { room: usize, table: Table },
+    /// Judging one pair.
+    Judge { pair: (u32, u32), table: Table },
+    /// Folding into slices of so many numbers.
+    Fold { budget: u32, room: Room, table: Table },
 }
 
 use Operation::*;
 
 /// An operation's name, and the numbers other than 0 that it can give, in the order in which it does.
-pub const OPERATIONS: [(&str, &[u32]); 4] = [
+pub const OPERATIONS: [(&str, &[u32]); 7] = [
     ("show", &[10, 11, 1, 2, 12, 3, 4, 5, 7]),
     ("check", &[1, 2, 3, 4, 5, 6, 7]),
     ("write", &[1, 2, 3, 4, 5, 6, 7, 8]),
     ("read", &[10, 11, 1, 2, 12, 3, 4, 5, 7, 8]),
+    ("list", &[1, 2, 3, 4, 5, 8]),
+    ("judge", &[1, 2, 3, 4, 5, 13]),
+    ("fold", &[1, 2, 3, 4, 5, 6, 7, 8, 9]),
 ];
 
 impl Operation {
@@ -43,6 +57,23 @@ impl Operation {
             Check { .. } => "check",
             Write { .. } => "write",
             Read { .. } => "read",
+            List { .. } => "list",
+            Judge { .. } => "judge",
+            Fold { .. } => "fold",
+        }
+    }
+
+    /// Whether no slice is longer than `batch` takes it.
+    pub fn fits(&self) -> bool {
+        match self {
+            Show { stream } => stream.len() <= LONGEST_STREAM,
+            Check { table } | Judge { table, .. } => lengths(table).is_within(MOST_ROOM),
+            Write { room, table } => *room <= LONGEST_IMAGE && lengths(table).is_within(MOST_ROOM),
+            Read { room, stream } => room.is_within(MOST_ROOM) && stream.len() <= LONGEST_STREAM,
+            List { room, table } => *room <= LONGEST_LIST && lengths(table).is_within(MOST_ROOM),
+            Fold { room, table, .. } => {
+                room.is_within(MOST_ROOM) && lengths(table).is_within(MOST_ROOM)
+            }
         }
     }
 
@@ -50,7 +81,7 @@ impl Operation {
         let mut body = Vec::new();
         let operation = match self {
             Show { stream } => {
-                append_stream(&mut body, stream);
+                body.extend(stream);
                 b's'
             }
             Check { table } => {
@@ -63,11 +94,25 @@ impl Operation {
                 b'w'
             }
             Read { room, stream } => {
-                append_number(&mut body, room.starts);
-                append_number(&mut body, room.targets);
-                append_number(&mut body, room.counts);
-                append_stream(&mut body, stream);
+                append_room(&mut body, *room);
+                body.extend(stream);
                 b'r'
+            }
+            List { room, table } => {
+                append_number(&mut body, *room);
+                append_lent_without_counts(&mut body, table);
+                b'l'
+            }
+            Judge { pair: (s, t), table } => {
+                body.extend([s.to_le_bytes(), t.to_le_bytes()].concat());
+                append_lent_without_counts(&mut body, table);
+                b'j'
+            }
+            Fold { budget, room, table } => {
+                body.extend(budget.to_le_bytes());
+                append_room(&mut body, *room);
+                append_lent(&mut body, table);
+                b'f'
             }
         };
         let mut question = vec![operation];
@@ -76,103 +121,68 @@ impl Operation {
         question
     }
 
-    /// The numbers whose condition holds, in the order in which they are given.
+    /// The numbers whose condition holds, in the order in which they are given. A cycle is looked for
+    /// where rows are.
     pub fn faults(&self) -> Vec<u32> {
         match self {
             Show { stream } => image::faults_of_reading(stream, None),
             Check { table } => table.faults(),
             Write { room, table } => {
-                let mut faults = table.faults();
                 let due = |n| image::length(n as u64, table.targets.len() as u64);
-                if table.vertices().is_some_and(|n| (*room as u64) < due(n)) {
-                    faults.push(8);
-                }
-                faults
+                let room_is_below = table.vertices().is_some_and(|n| (*room as u64) < due(n));
+                with(table.faults(), 8, room_is_below)
             }
             Read { room, stream } => image::faults_of_reading(stream, Some(*room)),
-        }
-    }
-
-    pub fn answer(&self) -> Vec<u8> {
-        let number = number_given(&self.faults());
-        match self {
-            Show { stream } => image::text(stream).into_bytes(),
-            Check { table } => {
-                let without = number_given(&table.faults_without_counts());
-                format!("check {without} counted {number}\n").into_bytes()
+            List { room, table } => {
+                let room_is_below = table.vertices().is_some_and(|n| *room < 2 * n);
+                with(table.faults_without_counts(), 8, room_is_below)
             }
-            Write { room, table } => {
-                let image = if number == 0 { image::of_table(table) } else { Vec::new() };
-                let mut answer = format!("wrote {number} {}\n", image.len()).into_bytes();
-                let end = answer.len() + room;
-                answer.extend(image);
-                answer.resize(end, BYTE_BEFORE);
-                answer.push(b'\n');
-                answer
+            Judge { pair: (s, t), table } => {
+                let beyond = table.vertices().is_some_and(|n| (*s).max(*t) as usize >= n);
+                with(table.faults_without_counts(), 13, beyond)
             }
-            Read { room, stream } => {
-                let mut read = Table { starts: vec![], targets: vec![], counts: vec![] };
-                if number == 0 {
-                    read = image::table_in(stream);
-                }
-                let (n, m) = (read.counts.len(), read.targets.len());
-                let mut answer = format!("read {number} {n} {m}\n").into_bytes();
-                read.starts.resize(room.starts, NUMBER_BEFORE as u32);
-                read.targets.resize(room.targets, NUMBER_BEFORE as u32);
-                read.counts.resize(room.counts, NUMBER_BEFORE as u64);
-                image::append_table(&mut answer, &read);
-                answer.push(b'\n');
-                answer
+            Fold { room, table, .. } => {
+                let room_is_below =
+                    table.vertices().is_some_and(|n| room.is_below(n, table.targets.len()));
+                let faults = with(table.faults(), 8, room_is_below);
+                let rows = faults.iter().all(|&number| number > 3);
+                with(faults, 9, rows && (superbubbles::way(table).has_cycle)(table))
             }
         }
     }
-
-    /// How long the answer to this question is in what a program printed, by its own first line;
-    /// none where the output ends before the answer does.
-    pub fn length_in(&self, output: &[u8]) -> Option<usize> {
-        let first = end_of_line(output, 0)?;
-        let end = match self {
-            Show { .. } => (0..lines_after(&output[..first]))
-                .try_fold(first, |end, _| end_of_line(output, end))?,
-            Check { .. } => first,
-            Write { room, .. } => first + room + 1,
-            Read { room, .. } => first + 4 * room.starts + 4 * room.targets + 8 * room.counts + 1,
-        };
-        (end <= output.len()).then_some(end)
-    }
 }
 
-/// The place after the next line feed.
-fn end_of_line(output: &[u8], from: usize) -> Option<usize> {
-    output[from..].iter().position(|&byte| byte == b'\n').map(|place| from + place + 1)
+/// The faults, and one more where it holds.
+fn with(mut faults: Vec<u32>, number: u32, holds: bool) -> Vec<u32> {
+    faults.extend(holds.then_some(number));
+    faults
 }
 
-/// How many lines follow on a first line `table N M`: N. On any other, none.
-fn lines_after(first_line: &[u8]) -> usize {
-    let line = String::from_utf8_lossy(first_line);
-    let mut words = line.split_whitespace();
-    match (words.next(), words.next()) {
-        (Some("table"), Some(n)) => n.parse().unwrap_or(0),
-        _ => 0,
-    }
+fn lengths(table: &Table) -> Room {
+    let (starts, targets, counts) = (table.starts.len(), table.targets.len(), table.counts.len());
+    Room { starts, targets, counts }
 }
 
 fn append_number(bytes: &mut Vec<u8>, number: usize) {
     bytes.extend((number as u32).to_le_bytes());
 }
 
-fn append_stream(body: &mut Vec<u8>, stream: &[u8]) {
-    assert!(stream.len() <= LONGEST_STREAM, "a question that batch does not take");
-    body.extend(stream);
+fn append_room(body: &mut Vec<u8>, room: Room) {
+    append_number(body, room.starts);
+    append_number(body, room.targets);
+    append_number(body, room.counts);
 }
 
 /// The three lengths, then the three slices.
 fn append_lent(body: &mut Vec<u8>, table: &Table) {
-    let fits =
-        table.starts.len() <= 4_096 && table.targets.len() <= 16_384 && table.counts.len() <= 4_096;
-    assert!(fits, "a question that batch does not take");
+    append_room(body, lengths(table));
+    image::append_table(body, table);
+}
+
+/// The lengths of starts and targets, then these two slices.
+fn append_lent_without_counts(body: &mut Vec<u8>, table: &Table) {
     append_number(body, table.starts.len());
     append_number(body, table.targets.len());
-    append_number(body, table.counts.len());
-    image::append_table(body, table);
+    image::append_numbers(body, &table.starts);
+    image::append_numbers(body, &table.targets);
 }

@@ -12,11 +12,16 @@ pub const SHORT: Duration = Duration::from_secs(120);
 /// How long a first run may take, which proves and builds the program where it is missing.
 pub const LONG: Duration = Duration::from_secs(3_600);
 
+/// More bytes than any input has: it is handed over in one piece.
+pub const WHOLE: usize = usize::MAX;
+
 const BETWEEN_PIECES: Duration = Duration::from_millis(1);
 
-/// What a run left: all that it printed, and the exit status, or in words why it has none.
+/// What a run left: all that it printed, what it said on standard error, and the exit status, or in
+/// words why it has none.
 pub struct Run {
     pub output: Vec<u8>,
+    pub errors: String,
     pub status: Result<i32, String>,
 }
 
@@ -25,8 +30,8 @@ impl Run {
     pub fn trouble(&self) -> Option<String> {
         match &self.status {
             Ok(0) => None,
-            Ok(status) => Some(format!("the run ended with status {status}")),
-            Err(why) => Some(format!("the run {why}")),
+            Ok(status) => Some(format!("the run ended with status {status}: {}", self.errors)),
+            Err(why) => Some(format!("the run {why}: {}", self.errors)),
         }
     }
 }
@@ -38,40 +43,32 @@ pub fn run(folder: &Path, words: &[&str], input: &[u8], piece: usize, limit: Dur
         .current_dir(folder)
         .stdin(Stdio::piped())
         .stdout(Stdio::piped())
+        .stderr(Stdio::piped())
         .spawn();
     let mut child = match started {
         Ok(child) => child,
         Err(error) => {
-            return Run { output: Vec::new(), status: Err(format!("did not start: {error}")) };
+            let status = Err(format!("did not start: {error}"));
+            return Run { output: Vec::new(), errors: String::new(), status };
         }
     };
     let stdin = child.stdin.take().unwrap();
-    let mut stdout = child.stdout.take().unwrap();
+    let stdout = child.stdout.take().unwrap();
+    let stderr = child.stderr.take().unwrap();
     thread::scope(|scope| {
         scope.spawn(move || hand_over(stdin, input, piece));
-        let reader = scope.spawn(move || {
-            let mut output = Vec::new();
-            stdout.read_to_end(&mut output).map(|_| output)
-        });
+        let output = scope.spawn(move || all_of(stdout));
+        let errors = scope.spawn(move || all_of(stderr));
         let status = wait(&mut child, limit);
-        match reader.join().unwrap() {
-            Ok(output) => Run { output, status },
-            Err(error) => {
-                Run { output: Vec::new(), status: Err(format!("could not be read: {error}")) }
-            }
-        }
+        let errors = String::from_utf8_lossy(&errors.join().unwrap()).into_owned();
+        Run { output: output.join().unwrap(), errors, status }
     })
 }
 
-/// What `gohardim` says on standard error to words that it refuses, where it prints nothing and ends
-/// with the status 2.
-pub fn refused(words: &[&str]) -> Result<String, String> {
-    let ended = Command::new(launcher()).args(words).output().map_err(|error| error.to_string())?;
-    if ended.status.code() == Some(2) && ended.stdout.is_empty() {
-        Ok(String::from_utf8_lossy(&ended.stderr).into_owned())
-    } else {
-        Err(format!("it printed {} bytes, {}", ended.stdout.len(), ended.status))
-    }
+fn all_of(mut stream: impl Read) -> Vec<u8> {
+    let mut all = Vec::new();
+    stream.read_to_end(&mut all).expect("a program's output can be read");
+    all
 }
 
 fn launcher() -> PathBuf {

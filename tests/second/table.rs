@@ -5,7 +5,7 @@ pub const MOST_VERTICES: usize = 2_048;
 pub const MOST_EDGES: usize = 8_192;
 pub const LARGEST_SUM: u64 = 1_099_511_627_775;
 
-#[derive(Clone)]
+#[derive(Clone, Default, PartialEq)]
 pub struct Table {
     pub starts: Vec<u32>,
     pub targets: Vec<u32>,
@@ -26,6 +26,14 @@ impl Table {
     /// The row of a vertex of a table whose starts are right.
     pub fn row(&self, vertex: usize) -> &[u32] {
         &self.targets[self.starts[vertex] as usize..self.starts[vertex + 1] as usize]
+    }
+
+    /// The edges of a table whose starts are right, row after row; those that lead to no vertex are
+    /// left out.
+    pub fn edges(&self) -> Vec<(usize, usize)> {
+        let n = self.vertices().unwrap_or(0);
+        let of_row = |from| self.row(from).iter().map(move |&to| (from, to as usize));
+        (0..n).flat_map(of_row).filter(|&(_, to)| to < n).collect()
     }
 
     /// The numbers 1 to 5 whose condition holds, smallest first. Without a vertex count nothing

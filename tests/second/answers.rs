@@ -1,0 +1,153 @@
+//! The answers of the program `batch` that document 01 gives, and how far an answer reaches in what a
+//! program printed. Raw bytes stand behind an answer's first line: they are all the memory that was
+//! lent, as the call left it.
+
+use crate::fold::{self, Folded};
+use crate::image::{self, Room};
+use crate::operations::Operation::{self, *};
+use crate::quick;
+use crate::superbubbles::{self, Way};
+use crate::table::{number_given, Table};
+
+/// What every byte of a lent image slice is before the call, and every number of the lent output.
+const BYTE_BEFORE: u8 = 165;
+const NUMBER_BEFORE: u8 = 7;
+
+impl Operation {
+    /// The table whose superbubbles matter, where any do.
+    pub fn searched(&self) -> Option<&Table> {
+        match self {
+            Show { .. } | Check { .. } | Write { .. } | Read { .. } => None,
+            List { table, .. } | Judge { table, .. } | Fold { table, .. } => Some(table),
+        }
+    }
+
+    pub fn answer(&self) -> Vec<u8> {
+        self.answer_by(self.searched().map_or(&quick::WAY, superbubbles::way))
+    }
+
+    /// The answer where superbubbles are found in this way.
+    pub fn answer_by(&self, way: &Way) -> Vec<u8> {
+        let number = number_given(&self.faults());
+        match self {
+            Show { stream } => image::text(stream).into_bytes(),
+            Check { table } => {
+                let without = number_given(&table.faults_without_counts());
+                format!("check {without} counted {number}\n").into_bytes()
+            }
+            Write { room, table } => {
+                let image = if number == 0 { image::of_table(table) } else { Vec::new() };
+                let mut answer = format!("wrote {number} {}\n", image.len()).into_bytes();
+                let end = answer.len() + room;
+                answer.extend(image);
+                answer.resize(end, BYTE_BEFORE);
+                answer.push(b'\n');
+                answer
+            }
+            Read { room, stream } => {
+                let read = (number == 0).then(|| image::table_in(stream)).unwrap_or_default();
+                let (n, m) = (read.counts.len(), read.targets.len());
+                with_slices(format!("read {number} {n} {m}\n"), read, *room)
+            }
+            List { room, table } => {
+                let found = if number == 0 { (way.superbubbles)(table) } else { Vec::new() };
+                let pairs: Vec<_> = found.iter().map(|superbubble| superbubble.pair()).collect();
+                list(number, &pairs, *room)
+            }
+            Judge { pair: (s, t), table } => {
+                let found =
+                    if number == 0 { (way.judge)(table, *s as usize, *t as usize) } else { None };
+                judge(number, found.map(|superbubble| superbubble.all.len()))
+            }
+            Fold { budget, room, table } => {
+                let folded = (number == 0).then(|| fold::fold(way, table, *budget));
+                fold(number, folded.unwrap_or_default(), *room)
+            }
+        }
+    }
+
+    /// How long the answer to this question is in what a program printed, by its own first line;
+    /// none where the output ends before the answer does.
+    pub fn length_in(&self, output: &[u8]) -> Option<usize> {
+        let first = end_of_line(output, 0)?;
+        let end = match self {
+            Show { .. } => (0..lines_after(&output[..first]))
+                .try_fold(first, |end, _| end_of_line(output, end))?,
+            Check { .. } | Judge { .. } => first,
+            Write { room, .. } => first + room + 1,
+            Read { room, .. } | Fold { room, .. } => {
+                first + 4 * room.starts + 4 * room.targets + 8 * room.counts + 1
+            }
+            List { room, .. } => first + 4 * room + 1,
+        };
+        (end <= output.len()).then_some(end)
+    }
+}
+
+// ---- the answers by what they say
+
+/// The answer to a question to list.
+pub fn list(number: u32, pairs: &[(usize, usize)], room: usize) -> Vec<u8> {
+    let mut answer = format!("list {number} {}\n", pairs.len()).into_bytes();
+    let mut slice: Vec<u32> = pairs.iter().flat_map(|&(s, t)| [s as u32, t as u32]).collect();
+    slice.resize(room, NUMBER_BEFORE as u32);
+    image::append_numbers(&mut answer, &slice);
+    answer.push(b'\n');
+    answer
+}
+
+/// The answer to a question to judge: a superbubble of so many vertices, or none.
+pub fn judge(number: u32, size: Option<usize>) -> Vec<u8> {
+    format!("judge {number} {} {}\n", size.is_some() as u32, size.unwrap_or(0)).into_bytes()
+}
+
+/// The answer to a question to fold.
+pub fn fold(number: u32, folded: Folded, room: Room) -> Vec<u8> {
+    let Folded { table, folded, left } = folded;
+    with_slices(format!("fold {number} {folded} {left} {}\n", table.targets.len()), table, room)
+}
+
+/// A first line, and then slices of this room with a table at their front.
+fn with_slices(first_line: String, mut table: Table, room: Room) -> Vec<u8> {
+    let mut answer = first_line.into_bytes();
+    table.starts.resize(room.starts, NUMBER_BEFORE as u32);
+    table.targets.resize(room.targets, NUMBER_BEFORE as u32);
+    table.counts.resize(room.counts, NUMBER_BEFORE as u64);
+    image::append_table(&mut answer, &table);
+    answer.push(b'\n');
+    answer
+}
+
+/// What an accepted fold of n vertices gave, by its answer; none where it was refused, or where the
+/// answer says what cannot be.
+pub fn folded_in(answer: &[u8], room: Room, n: usize) -> Option<Folded> {
+    let first = end_of_line(answer, 0)?;
+    let line = String::from_utf8_lossy(&answer[..first]);
+    let words: Vec<usize> = line.split_whitespace().flat_map(|word| word.parse()).collect();
+    let [0, folded, left, m] = words[..] else {
+        return None;
+    };
+    if room.is_below(n, m) {
+        return None;
+    }
+    let mut table = image::slices_in(&answer[first..], room);
+    table.starts.truncate(n + 1);
+    table.targets.truncate(m);
+    table.counts.truncate(n);
+    Some(Folded { table, folded, left })
+}
+
+/// The place after the next line feed.
+fn end_of_line(output: &[u8], from: usize) -> Option<usize> {
+    output[from..].iter().position(|&byte| byte == b'\n').map(|place| from + place + 1)
+}
+
+/// How many lines follow on a first line `table N M`: N. On any other, none.
+fn lines_after(first_line: &[u8]) -> usize {
+    let line = String::from_utf8_lossy(first_line);
+    let mut words = line.split_whitespace();
+    match (words.next(), words.next()) {
+        (Some("table"), Some(n)) => n.parse().unwrap_or(0),
+        _ => 0,
+    }
+}

@@ -1,0 +1,114 @@
+//! The definition of document 01, word by word, for tables of few vertices: sets that are closed under
+//! one more edge, every condition tried on every pair, every path laid beside every other. There is
+//! no search here, and nothing quick.
+
+use crate::superbubbles::{Superbubble, Way};
+use crate::table::Table;
+use std::cmp::Reverse;
+
+pub const WAY: Way = Way { superbubbles, judge, kept, has_cycle };
+
+/// A set of vertices: for each whether it belongs to it.
+type Set = Vec<bool>;
+type Edge = (usize, usize);
+
+/// F: the vertices with a path from s on which t is nowhere but at the last place.
+fn forward(n: usize, edges: &[Edge], s: usize, t: usize) -> Set {
+    closed(n, edges, s, |set, (from, to)| (set[from] && from != t).then_some(to))
+}
+
+/// B: the vertices with a path to t on which s is nowhere but at the first place.
+fn backward(n: usize, edges: &[Edge], s: usize, t: usize) -> Set {
+    closed(n, edges, t, |set, (from, to)| (set[to] && to != s).then_some(from))
+}
+
+/// The smallest set with this vertex that has whatever an edge adds to it.
+fn closed(
+    n: usize,
+    edges: &[Edge],
+    first: usize,
+    adds: impl Fn(&Set, Edge) -> Option<usize>,
+) -> Set {
+    let mut set = vec![false; n];
+    set[first] = true;
+    loop {
+        let before = set.clone();
+        for &edge in edges {
+            if let Some(more) = adds(&set, edge) {
+                set[more] = true;
+            }
+        }
+        if set == before {
+            return set;
+        }
+    }
+}
+
+/// Whether some edge leads back: its end reaches its beginning.
+fn have_cycle(n: usize, edges: &[Edge]) -> bool {
+    let reached = |first| closed(n, edges, first, |set, (from, to)| set[from].then_some(to));
+    edges.iter().any(|&(from, to)| reached(to)[from])
+}
+
+/// U of a pair that meets reachability, matching and acyclicity.
+fn meets_the_first_three(n: usize, edges: &[Edge], s: usize, t: usize) -> Option<Set> {
+    let (f, b) = (forward(n, edges, s, t), backward(n, edges, s, t));
+    let reachability = f[t];
+    let matching = f == b;
+    if !reachability || !matching {
+        return None;
+    }
+    let inside: Vec<Edge> = edges.iter().copied().filter(|&(from, to)| f[from] && f[to]).collect();
+    let acyclicity = !have_cycle(n, &inside);
+    acyclicity.then_some(f)
+}
+
+fn judge(table: &Table, s: usize, t: usize) -> Option<Superbubble> {
+    if s == t {
+        return None;
+    }
+    let (n, edges) = (table.starts.len() - 1, table.edges());
+    let u = meets_the_first_three(n, &edges, s, t)?;
+    let meets_with_s = |x| x != s && meets_the_first_three(n, &edges, s, x).is_some();
+    let minimality = !(0..n).any(|x| u[x] && x != t && meets_with_s(x));
+    let all = (0..n).filter(|&vertex| u[vertex]).collect();
+    minimality.then_some(Superbubble { entrance: s, exit: t, all })
+}
+
+fn superbubbles(table: &Table) -> Vec<Superbubble> {
+    let n = table.starts.len() - 1;
+    let pairs = (0..n).flat_map(|s| (0..n).map(move |t| (s, t)));
+    pairs.filter_map(|(s, t)| judge(table, s, t)).collect()
+}
+
+/// Of all paths that with the largest sum over its inner vertices; of equal ones that with the smaller
+/// vertex at the first place where they differ.
+fn kept(table: &Table, superbubble: &Superbubble) -> Vec<usize> {
+    let sum = |path: &[usize]| -> u64 {
+        path[1..path.len() - 1].iter().map(|&vertex| table.counts[vertex]).sum()
+    };
+    let mut paths = Vec::new();
+    append_paths(table, superbubble, vec![superbubble.entrance], &mut paths);
+    paths.into_iter().min_by_key(|path| (Reverse(sum(path)), path.clone())).unwrap()
+}
+
+/// Appends every path to the exit that begins with these vertices.
+fn append_paths(
+    table: &Table,
+    within: &Superbubble,
+    begun: Vec<usize>,
+    paths: &mut Vec<Vec<usize>>,
+) {
+    let last = *begun.last().unwrap();
+    if last == within.exit {
+        paths.push(begun);
+        return;
+    }
+    for &next in table.row(last) {
+        append_paths(table, within, [&begun[..], &[next as usize]].concat(), paths);
+    }
+}
+
+fn has_cycle(table: &Table) -> bool {
+    have_cycle(table.starts.len() - 1, &table.edges())
+}

@@ -1,0 +1,205 @@
+//! Cases for which a program is run alone: its text and its words, streams in pieces and longer than it
+//! reads, and the files of `fold`.
+
+use crate::cases::{resized, Cases};
+use crate::damages::{self, OF_IMAGE, OF_TABLE};
+use crate::graphs::{self, lettered, TWELVE};
+use crate::image;
+use crate::operations::LONGEST_STREAM;
+use crate::random::Random;
+use crate::runs::{Due, Files, ProgramRun};
+use crate::shapes;
+
+impl Cases {
+    pub fn programs(&mut self) {
+        self.streams(ProgramRun::show);
+        self.streams(ProgramRun::list);
+        self.add_run("document 01's example", ProgramRun::list(of_letter("J")));
+        self.begins("superbubbles 2\n0 6\n1 4\n");
+        for shape in [shapes::chain(2_048), shapes::ring(2_048), shapes::nests(20, 34)] {
+            let table = shape.relabelled(&mut self.next_random()).counted(1);
+            self.add_run("many superbubbles", ProgramRun::list(image::of_table(&table)));
+        }
+        self.judges();
+        self.folded_files();
+        self.files_left_alone();
+    }
+
+    /// Streams of every kind for a program that takes nothing else.
+    fn streams(&mut self, run: fn(Vec<u8>) -> ProgramRun) {
+        let j = of_letter("J");
+        let largest = |random: &mut Random| image::of_table(&graphs::largest(random));
+        for graph in &TWELVE {
+            self.add_run(graph.name, run(of_letter(graph.name)));
+        }
+        self.add_run("an empty stream", run(Vec::new()));
+        for piece in [1, 7, 13, 132] {
+            let name = format!("J in pieces of {piece}");
+            self.add_run(name, ProgramRun { piece, ..run(j.clone()) });
+        }
+        for piece in [1_000, 4_096, 57_361] {
+            let stream = largest(&mut self.next_random());
+            let name = format!("the largest image in pieces of {piece}");
+            self.add_run(name, ProgramRun { piece, ..run(stream) });
+        }
+        for length in [LONGEST_STREAM, LONGEST_STREAM + 1, 60_000, 65_536, 200_000, 1_000_000] {
+            let name = |what: &str| format!("{what}, with {length} bytes");
+            let stream = largest(&mut self.next_random());
+            self.add_run(name("the largest image"), run(resized(stream, length)));
+            self.add_run(name("zeros"), run(vec![0; length]));
+            self.add_run(name("J"), run(resized(j.clone(), length)));
+        }
+        for damage in OF_IMAGE.iter().filter(|damage| damage.name.starts_with("header says")) {
+            let mut stream = resized(j.clone(), 60_000);
+            (damage.apply)(&mut stream, &mut self.next_random());
+            self.add_run(format!("J, {}, with 60,000 bytes", damage.name), run(stream));
+        }
+        for _ in 0..10 {
+            let table = graphs::any(&mut self.next_random());
+            self.add_run("a well-formed table", run(image::of_table(&table)));
+            let stream = damaged_image(&mut self.next_random());
+            let name = "a damaged image in pieces of 50";
+            self.add_run(name, ProgramRun { piece: 50, ..run(stream) });
+        }
+    }
+
+    fn judges(&mut self) {
+        for (letter, s, t, text) in [
+            ("J", "0", "6", "superbubble 7\n"),
+            ("J", "1", "4", "superbubble 4\n"),
+            ("J", "6", "0", "no\n"),
+            ("J", "3", "3", "no\n"),
+            ("H", "0", "3", "no\n"),
+            ("H", "3", "0", "superbubble 2\n"),
+            ("I", "2", "0", "no\n"),
+            ("J", "7", "0", "refused 13\n"),
+            ("J", "0", "7", "refused 13\n"),
+            ("J", "4294967295", "0", "refused 13\n"),
+            ("J", "4294967296", "6", "refused 13\n"),
+            ("J", "0", "4294967302", "refused 13\n"),
+            ("J", "0", "18446744073709551622", "refused 13\n"),
+            ("J", "99999999999999999999999999", "6", "refused 13\n"),
+            ("A", "0", "0", "refused 13\n"),
+        ] {
+            self.add_run(letter, ProgramRun::judge(s, t, of_letter(letter)));
+            self.begins(text);
+        }
+        let fan = image::of_table(&shapes::fan(2_048).counted(1));
+        self.add_run("a fan of 2,048", ProgramRun::judge("0", "1", fan));
+        self.begins("superbubble 2048\n");
+        self.add_run("an empty stream", ProgramRun::judge("0", "6", Vec::new()));
+        self.begins("refused 10\n");
+        let long = resized(of_letter("J"), 100_000);
+        self.add_run("J, with 100,000 bytes", ProgramRun::judge("7", "4294967296", long));
+        self.begins("refused 12\n");
+        for _ in 0..8 {
+            let stream = damaged_image(&mut self.next_random());
+            self.add_run("a damaged image", ProgramRun::judge("0", "5000000000", stream));
+        }
+        for words in [
+            &[][..],
+            &["0"],
+            &["0", "6", "1"],
+            &["a", "6"],
+            &["0", "b"],
+            &["-1", "6"],
+            &["0", "6x"],
+            &["", "6"],
+            &["0", "1.5"],
+        ] {
+            let run = ProgramRun::of_stream("judge", words, of_letter("J"), Due::Usage);
+            self.add_run("wrong words", run);
+        }
+    }
+
+    // ---- the files of fold
+
+    fn folded_files(&mut self) {
+        let fold = |letter: &str, budget| {
+            ProgramRun::fold(budget, "in.sbt", "out.sbt", file("in.sbt", of_letter(letter)))
+        };
+        for (letter, budget, text) in [
+            ("J", 1, "folded 1 left 0 edges 2\n"),
+            ("J", 0, "folded 0 left 1 edges 8\n"),
+            ("J", u32::MAX, "folded 1 left 0 edges 2\n"),
+            ("K", 1, "folded 1 left 1 edges 6\n"),
+            ("K", 2, "folded 2 left 0 edges 4\n"),
+            ("L", 1, "folded 1 left 0 edges 2\n"),
+            ("A", 1, "folded 0 left 0 edges 0\n"),
+            ("E", 1, "refused 9\n"),
+            ("G", 0, "refused 9\n"),
+        ] {
+            self.add_run(letter, fold(letter, budget));
+            self.begins(text);
+        }
+        let once = fold("K", 1).after;
+        self.add_run(
+            "K again, from what was written",
+            ProgramRun::fold(1, "out.sbt", "k.sbt", once),
+        );
+        self.begins("folded 1 left 0 edges 4\n");
+        let old =
+            |stream: Vec<u8>| [file("in.sbt", stream), file("out.sbt", vec![1, 2, 3])].concat();
+        let over = |stream| ProgramRun::fold(1, "in.sbt", "out.sbt", old(stream));
+        self.add_run("J over an old file", over(of_letter("J")));
+        self.add_run("F beside an old file", over(of_letter("F")));
+        self.add_run("an empty file beside an old file", over(Vec::new()));
+        let long = resized(of_letter("J"), 100_000);
+        self.add_run("J, with 100,000 bytes, beside an old file", over(long));
+        let same = ProgramRun::fold(1, "in.sbt", "in.sbt", file("in.sbt", of_letter("J")));
+        self.add_run("J, IN and OUT are one", same);
+        let same = ProgramRun::fold(1, "in.sbt", "in.sbt", file("in.sbt", of_letter("E")));
+        self.add_run("E, IN and OUT are one", same);
+        let folders =
+            [file("a/", vec![]), file("a/in", of_letter("J")), file("b/", vec![])].concat();
+        self.add_run("J in another folder", ProgramRun::fold(1, "a/in", "b/out", folders));
+        for shape in [shapes::nests(20, 34), shapes::ladder(), shapes::chain(2_048)] {
+            let random = &mut self.next_random();
+            let stream = image::of_table(&shape.relabelled(random).table(random));
+            self.add_run("a large table", over(stream));
+        }
+        for _ in 0..8 {
+            let random = &mut self.next_random();
+            let table = shapes::bubbly_acyclic(random, 60).table(random);
+            self.add_run("a table rich in superbubbles", over(image::of_table(&table)));
+            let stream = damaged_image(&mut self.next_random());
+            self.add_run("a damaged image beside an old file", over(stream));
+        }
+    }
+
+    /// Where `fold` gives no answer, every file is as it was, and there is none more.
+    fn files_left_alone(&mut self) {
+        let files = [file("in.sbt", of_letter("J")), file("out.sbt", vec![1, 2, 3])].concat();
+        for budget in ["", "a", "-1", "1x", "4294967296", "18446744073709551617"] {
+            let words = [budget, "in.sbt", "out.sbt"];
+            self.add_run("no budget", ProgramRun::fold_refusing(&words, files.clone()));
+        }
+        for words in [
+            &[][..],
+            &["1"],
+            &["1", "in.sbt"],
+            &["1", "in.sbt", "out.sbt", "more.sbt"],
+            &["1", "none.sbt", "out.sbt"],
+            &["1", "none.sbt", "none.sbt"],
+            &["1", "in.sbt", "none/out.sbt"],
+        ] {
+            self.add_run("wrong words", ProgramRun::fold_refusing(words, files.clone()));
+        }
+        let files = [file("folder/", vec![]), file("in.sbt", of_letter("J"))].concat();
+        let words = ["1", "in.sbt", "folder"];
+        self.add_run("OUT is a folder", ProgramRun::fold_refusing(&words, files));
+    }
+}
+
+fn of_letter(letter: &str) -> Vec<u8> {
+    image::of_table(&lettered(letter).table())
+}
+
+fn damaged_image(random: &mut Random) -> Vec<u8> {
+    let damage = random.place(OF_TABLE.len() + OF_IMAGE.len());
+    damages::damaged_image(random, &[damage])
+}
+
+fn file(name: &str, content: Vec<u8>) -> Files {
+    vec![(name.to_string(), content)]
+}

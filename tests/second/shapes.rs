@@ -1,0 +1,240 @@
+//! Graphs in which superbubbles are to be found, or nearly: every small one, random ones, ones that are
+//! grown, and some of a plain shape and any size.
+
+use crate::graphs::{self, Edge};
+use crate::random::Random;
+use crate::table::Table;
+
+/// A graph by its edges. No edge stands twice.
+#[derive(Clone)]
+pub struct Shape {
+    pub n: usize,
+    pub edges: Vec<Edge>,
+}
+
+impl Shape {
+    /// The table with random counts.
+    pub fn table(&self, random: &mut Random) -> Table {
+        graphs::of_edges(&self.edges, graphs::counts(random, self.n))
+    }
+
+    /// The table in which every vertex has this count.
+    pub fn counted(&self, count: u64) -> Table {
+        graphs::of_edges(&self.edges, vec![count; self.n])
+    }
+
+    /// The same graph with its vertices numbered at random.
+    pub fn relabelled(&self, random: &mut Random) -> Shape {
+        let mut names: Vec<usize> = (0..self.n).collect();
+        for place in 1..self.n {
+            names.swap(place, random.between(0, place));
+        }
+        let edges = self.edges.iter().map(|&(from, to)| (names[from], names[to])).collect();
+        Shape { n: self.n, edges }
+    }
+
+    /// A path from one vertex to another over so many new ones.
+    fn add_arm(&mut self, from: usize, inner: usize, to: usize) {
+        let mut last = from;
+        for _ in 0..inner {
+            self.edges.push((last, self.n));
+            last = self.n;
+            self.n += 1;
+        }
+        self.edges.push((last, to));
+    }
+
+    /// Puts something larger in the place of one edge, of so many new vertices at the most.
+    fn grow(&mut self, random: &mut Random, place: usize, most: usize) {
+        let (from, to) = self.edges[place];
+        let way = if most < MOST_NEW { random.between(0, 1) } else { random.between(0, 5) };
+        if way != BESIDE {
+            self.edges.swap_remove(place);
+        }
+        let new = self.n;
+        match way {
+            BESIDE | 1 => self.add_arm(from, 1, to),
+            2 | 3 => {
+                self.add_arm(from, random.between(1, 2), to);
+                self.add_arm(from, random.between(1, 2), to);
+            }
+            4 => {
+                // two arms with an edge from one to the other
+                self.add_arm(from, 1, to);
+                self.add_arm(from, 1, to);
+                self.edges.push((new, new + 1));
+            }
+            _ => {
+                // a bubble with a vertex before it and one after it
+                self.n += 2;
+                self.edges.extend([(from, new), (new + 1, to)]);
+                self.add_arm(new, 1, new + 1);
+                self.add_arm(new, 1, new + 1);
+            }
+        }
+    }
+
+    /// Grows edges into bubbles, as far as n vertices reach: each edge once, and then any, those inside
+    /// of bubbles among them.
+    fn grown(mut self, random: &mut Random, n: usize) -> Shape {
+        let mut places = (0..self.edges.len()).rev();
+        while !self.edges.is_empty() && self.n < n {
+            let place = places.next().unwrap_or_else(|| random.place(self.edges.len()));
+            self.grow(random, place, n - self.n);
+        }
+        self
+    }
+
+    /// So many edges more, between any two vertices, if they are not there yet.
+    fn spoiled(mut self, random: &mut Random, edges: usize) -> Shape {
+        for _ in 0..edges {
+            let edge = (random.place(self.n), random.place(self.n));
+            if !self.edges.contains(&edge) {
+                self.edges.push(edge);
+            }
+        }
+        self
+    }
+}
+
+/// The way to grow that leaves the edge where it was, and the most vertices that any way brings. The
+/// first two bring one.
+const BESIDE: usize = 0;
+const MOST_NEW: usize = 4;
+
+// ---- small ones, and random ones
+
+/// Every graph of n vertices, self-loops and all.
+pub fn every(n: usize) -> Vec<Shape> {
+    let pairs = pairs(n);
+    let chosen = |number: u32| {
+        let stands = |place: &usize| number >> place & 1 == 1;
+        (0..pairs.len()).filter(stands).map(|place| pairs[place]).collect()
+    };
+    (0..1 << pairs.len()).map(|number| Shape { n, edges: chosen(number) }).collect()
+}
+
+pub fn pairs(n: usize) -> Vec<Edge> {
+    (0..n).flat_map(|s| (0..n).map(move |t| (s, t))).collect()
+}
+
+/// Any graph of n vertices, of any density.
+pub fn any(random: &mut Random, n: usize) -> Shape {
+    some_of(random, n, pairs(n))
+}
+
+/// Any graph of n vertices whose edges all rise.
+pub fn acyclic(random: &mut Random, n: usize) -> Shape {
+    some_of(random, n, pairs(n).into_iter().filter(|(from, to)| from < to).collect())
+}
+
+fn some_of(random: &mut Random, n: usize, mut edges: Vec<Edge>) -> Shape {
+    let of_twelve = random.between(1, 9);
+    edges.retain(|_| random.between(1, 12) <= of_twelve);
+    Shape { n, edges }
+}
+
+/// A graph of at most n vertices that is rich in superbubbles, cycles allowed; it may be spoiled by
+/// some edges.
+pub fn bubbly(random: &mut Random, n: usize) -> Shape {
+    let few = random.between(2, 4);
+    let first = match random.between(0, 3) {
+        0 => chain(few),
+        1 => ring(few),
+        2 => any(random, few),
+        _ => acyclic(random, few),
+    };
+    let spoils = random.one_of(&[0, 0, 1, 2]);
+    first.grown(random, n).spoiled(random, spoils).relabelled(random)
+}
+
+/// A graph of at most n vertices without a cycle that is rich in superbubbles.
+pub fn bubbly_acyclic(random: &mut Random, n: usize) -> Shape {
+    let few = random.between(2, 5);
+    let first = match random.between(0, 3) {
+        0 => acyclic(random, few),
+        1 => apart(few),
+        _ => chain(few),
+    };
+    first.grown(random, n).relabelled(random)
+}
+
+// ---- plain shapes
+
+pub fn chain(n: usize) -> Shape {
+    Shape { n, edges: (1..n).map(|vertex| (vertex - 1, vertex)).collect() }
+}
+
+/// Edges that have nothing to do with each other.
+fn apart(edges: usize) -> Shape {
+    Shape { n: 2 * edges, edges: (0..edges).map(|edge| (2 * edge, 2 * edge + 1)).collect() }
+}
+
+/// A cycle of n vertices.
+pub fn ring(n: usize) -> Shape {
+    let mut ring = chain(n);
+    ring.edges.push((n - 1, 0));
+    ring
+}
+
+/// A chain, and from each of its vertices an edge to one that leads nowhere.
+pub fn comb(n: usize) -> Shape {
+    let mut comb = chain(n / 2);
+    comb.edges.extend((0..n / 2).map(|vertex| (vertex, n / 2 + vertex)));
+    Shape { n, edges: comb.edges }
+}
+
+/// The same graph with every edge turned round.
+pub fn turned_round(shape: Shape) -> Shape {
+    let edges = shape.edges.into_iter().map(|(from, to)| (to, from)).collect();
+    Shape { n: shape.n, edges }
+}
+
+/// From 0 to 1 by each other vertex.
+pub fn fan(n: usize) -> Shape {
+    let mut fan = Shape { n: 2, edges: Vec::new() };
+    for _ in 2..n {
+        fan.add_arm(0, 1, 1);
+    }
+    fan
+}
+
+/// From an entrance through 510 layers of four vertices, each with an edge to all of the next layer, to
+/// an exit, and on along a chain; with 34 edges more that pass over a layer, n = 2,048 and m = 8,192.
+pub fn ladder() -> Shape {
+    let vertex = |layer: usize, place: usize| 1 + 4 * layer + place;
+    let mut edges = Vec::new();
+    for place in 0..4 {
+        edges.push((0, vertex(0, place)));
+        edges.extend((1..510).flat_map(|layer| {
+            (0..4).map(move |next| (vertex(layer - 1, place), vertex(layer, next)))
+        }));
+        edges.push((vertex(509, place), 2_041));
+    }
+    edges.extend((0..34).map(|layer| (vertex(layer, 0), vertex(layer + 2, 0))));
+    edges.extend((2_041..2_047).map(|vertex| (vertex, vertex + 1)));
+    Shape { n: 2_048, edges }
+}
+
+/// Superbubbles in each other, so many deep, many times one after the other: the exit of each
+/// outermost one is the entrance of the next.
+pub fn nests(depth: usize, times: usize) -> Shape {
+    let mut nests = Shape { n: 1, edges: Vec::new() };
+    let mut entrance = 0;
+    for _ in 0..times {
+        let exit = nests.n;
+        nests.n += 1;
+        let (mut from, mut to) = (entrance, exit);
+        for _ in 1..depth {
+            nests.add_arm(from, 1, to);
+            let (inner_entrance, inner_exit) = (nests.n, nests.n + 1);
+            nests.n += 2;
+            nests.edges.extend([(from, inner_entrance), (inner_exit, to)]);
+            (from, to) = (inner_entrance, inner_exit);
+        }
+        nests.add_arm(from, 1, to);
+        nests.edges.push((from, to));
+        entrance = exit;
+    }
+    nests
+}

@@ -1,0 +1,70 @@
+//! Superbubbles as the operations need them: the pair with its set U, the candidates of a fold, and the
+//! two ways in which the second program finds them.
+
+use crate::definition;
+use crate::quick;
+use crate::table::Table;
+use std::collections::BTreeSet;
+
+pub struct Superbubble {
+    pub entrance: usize,
+    pub exit: usize,
+    /// U, the entrance and the exit among it.
+    pub all: BTreeSet<usize>,
+}
+
+impl Superbubble {
+    pub fn pair(&self) -> (usize, usize) {
+        (self.entrance, self.exit)
+    }
+
+    pub fn is_interior(&self, vertex: usize) -> bool {
+        vertex != self.entrance && vertex != self.exit && self.all.contains(&vertex)
+    }
+
+    pub fn has_interior(&self) -> bool {
+        self.all.len() > 2
+    }
+
+    /// Whether the whole U of another lies in this interior.
+    fn surrounds(&self, other: &Superbubble) -> bool {
+        other.all.iter().all(|&vertex| self.is_interior(vertex))
+    }
+}
+
+/// A way to answer what document 01 asks about a well-formed table.
+pub struct Way {
+    /// All superbubbles, by rising entrance.
+    pub superbubbles: fn(&Table) -> Vec<Superbubble>,
+    /// The superbubble of an entrance and an exit, where they form one.
+    pub judge: fn(&Table, usize, usize) -> Option<Superbubble>,
+    /// The path that folding keeps, from the entrance to the exit.
+    pub kept: fn(&Table, &Superbubble) -> Vec<usize>,
+    /// Whether there is a directed cycle; edges that lead to no vertex are passed over.
+    pub has_cycle: fn(&Table) -> bool,
+}
+
+/// How many vertices a table may have to be answered by the definition.
+pub const FEW_VERTICES: usize = 10;
+
+/// The way for a table: by the definition while it is small, and else the quick one.
+pub fn way(table: &Table) -> &'static Way {
+    if is_small(table) {
+        &definition::WAY
+    } else {
+        &quick::WAY
+    }
+}
+
+pub fn is_small(table: &Table) -> bool {
+    table.vertices().is_some_and(|n| n <= FEW_VERTICES)
+}
+
+/// The candidates of a fold, by rising entrance: the outermost superbubbles with an interior.
+pub fn candidates(way: &Way, table: &Table) -> Vec<Superbubble> {
+    let mut all = (way.superbubbles)(table);
+    all.retain(Superbubble::has_interior);
+    let is_outermost = |one| !all.iter().any(|other| other.surrounds(one));
+    let outermost: Vec<bool> = all.iter().map(is_outermost).collect();
+    all.into_iter().zip(outermost).filter_map(|(one, is)| is.then_some(one)).collect()
+}
