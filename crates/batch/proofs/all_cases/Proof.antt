@@ -1,0 +1,75 @@
+-- `batch::all_cases` is safe and ends. The loop's invariant: the place lies within the buffer, and each slice is as long as it was. The measure is the number of turns that are left. Assumes nothing.
+use Prim.Native.Nat.{_≤_}
+use mathlib.Core.Path.{_≡_}
+use lib.ListN.{length}
+use borrow.Author.Needs.{needs}
+use Rattle.batch.proofs.all_cases.Statement.{statement}
+use Rattle.batch.proofs.all_cases.Tie as tie
+
+abbrev Inv-loop : tie.InvT-loop
+Inv-loop out₀ body₀ starts₀ targets₀ counts₀ image₀ turns₀ at₀ out body starts targets counts image turns at =
+    (at ≤ 4096)
+    × (length body ≡ length body₀)
+    × (length starts ≡ length starts₀)
+    × (length targets ≡ length targets₀)
+    × (length counts ≡ length counts₀)
+    × (length image ≡ length image₀)
+
+abbrev μ-loop : tie.MeasureT-loop
+μ-loop out₀ body₀ starts₀ targets₀ counts₀ image₀ turns₀ at₀ out body starts targets counts image turns at =
+    turns
+
+loop-holds : tie.Need-loop-holds Inv-loop μ-loop
+loop-holds c = search needs
+
+one-case-requires : tie.Need-one-case-requires Inv-loop μ-loop
+one-case-requires c κs = search needs
+
+turns-left-requires : tie.Need-turns-left-requires Inv-loop μ-loop
+turns-left-requires c κs = search needs
+
+loop-less : tie.Need-loop-less Inv-loop μ-loop
+loop-less c = search needs
+
+loop-again : tie.Need-loop-again Inv-loop μ-loop
+loop-again c = search needs
+
+flush-requires : tie.Need-flush-requires Inv-loop μ-loop
+flush-requires c κs = search needs
+
+same-length : tie.Need-same-length Inv-loop μ-loop
+same-length c = search needs
+
+same-length-2 : tie.Need-same-length-2 Inv-loop μ-loop
+same-length-2 c = search needs
+
+same-length-3 : tie.Need-same-length-3 Inv-loop μ-loop
+same-length-3 c = search needs
+
+same-length-4 : tie.Need-same-length-4 Inv-loop μ-loop
+same-length-4 c = search needs
+
+same-length-5 : tie.Need-same-length-5 Inv-loop μ-loop
+same-length-5 c = search needs
+
+returns : tie.Need-returns Inv-loop μ-loop
+returns c = search needs
+
+pub all-cases-spec : {M : Type 1} → statement M
+all-cases-spec =
+    tie.close
+    (tie.spec
+    Inv-loop
+    μ-loop
+    loop-holds
+    one-case-requires
+    turns-left-requires
+    loop-less
+    loop-again
+    flush-requires
+    same-length
+    same-length-2
+    same-length-3
+    same-length-4
+    same-length-5
+    returns)

@@ -1,0 +1,56 @@
+-- `batch::bytes::put_longs` meets its contract. The loop's invariant: the place lies within the buffer. Assumes nothing.
+use Prim.Native.Nat.{_-_, _≤_}
+use native.Mathlib.Omega.{arith}
+use lib.ListN.{length}
+use borrow.Author.Needs.{needs}
+use Rattle.batch.proofs.bytes.put_longs.Statement.{statement}
+use Rattle.batch.proofs.bytes.put_longs.Tie as tie
+
+abbrev Inv-loop : tie.InvT-loop
+Inv-loop out₀ at numbers place₀ k₀ out place k = (k ≤ length numbers) × (place ≤ 4096)
+
+abbrev μ-loop : tie.MeasureT-loop
+μ-loop out₀ at numbers place₀ k₀ out place k = length numbers - k
+
+loop-holds : tie.Need-loop-holds Inv-loop μ-loop
+loop-holds c = search needs
+
+mul-x : tie.Need-mul-x Inv-loop μ-loop
+mul-x c = search needs
+
+shared-slice-read-x : tie.Need-shared-slice-read-x Inv-loop μ-loop
+shared-slice-read-x c = search needs
+
+put-word-requires : tie.Need-put-word-requires Inv-loop μ-loop
+put-word-requires c κs = search needs
+
+put-word-requires-2 : tie.Need-put-word-requires-2 Inv-loop μ-loop
+put-word-requires-2 c κs = search needs
+
+add-k : tie.Need-add-k Inv-loop μ-loop
+add-k c = search needs
+
+loop-less : tie.Need-loop-less Inv-loop μ-loop
+loop-less c = search needs
+
+loop-again : tie.Need-loop-again Inv-loop μ-loop
+loop-again c = search needs
+
+returns : tie.Need-returns Inv-loop μ-loop
+returns c = search needs
+
+pub put-longs-spec : {M : Type 1} → statement M
+put-longs-spec =
+    tie.close
+    (tie.spec
+    Inv-loop
+    μ-loop
+    loop-holds
+    mul-x
+    shared-slice-read-x
+    put-word-requires
+    put-word-requires-2
+    add-k
+    loop-less
+    loop-again
+    returns)

@@ -1,0 +1,64 @@
+-- `batch::bytes::read_longs` is safe and ends. The loop's invariant: the slice is as long as it was. Assumes nothing.
+use Prim.Native.Nat.{_-_, _≤_}
+use mathlib.Core.Path.{_≡_}
+use lib.ListN.{length}
+use borrow.Author.Needs.{needs}
+use Rattle.batch.proofs.bytes.read_longs.Statement.{statement}
+use Rattle.batch.proofs.bytes.read_longs.Tie as tie
+
+abbrev Inv-loop : tie.InvT-loop
+Inv-loop bytes at numbers₀ k₀ numbers k = (k ≤ length numbers₀) × (length numbers ≡ length numbers₀)
+
+abbrev μ-loop : tie.MeasureT-loop
+μ-loop bytes at numbers₀ k₀ numbers k = length numbers₀ - k
+
+loop-holds : tie.Need-loop-holds Inv-loop μ-loop
+loop-holds c = search needs
+
+mul-long : tie.Need-mul-long Inv-loop μ-loop
+mul-long c = search needs
+
+add-long : tie.Need-add-long Inv-loop μ-loop
+add-long c = search needs
+
+long-requires : tie.Need-long-requires Inv-loop μ-loop
+long-requires c κs = search needs
+
+mul-numbers : tie.Need-mul-numbers Inv-loop μ-loop
+mul-numbers c = search needs
+
+slice-write-numbers : tie.Need-slice-write-numbers Inv-loop μ-loop
+slice-write-numbers c = search needs
+
+add-k : tie.Need-add-k Inv-loop μ-loop
+add-k c = search needs
+
+loop-less : tie.Need-loop-less Inv-loop μ-loop
+loop-less c = search needs
+
+loop-again : tie.Need-loop-again Inv-loop μ-loop
+loop-again c = search needs
+
+same-length : tie.Need-same-length Inv-loop μ-loop
+same-length c = search needs
+
+returns : tie.Need-returns Inv-loop μ-loop
+returns c = search needs
+
+pub read-longs-spec : {M : Type 1} → statement M
+read-longs-spec =
+    tie.close
+    (tie.spec
+    Inv-loop
+    μ-loop
+    loop-holds
+    mul-long
+    add-long
+    long-requires
+    mul-numbers
+    slice-write-numbers
+    add-k
+    loop-less
+    loop-again
+    same-length
+    returns)

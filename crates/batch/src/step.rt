@@ -1,0 +1,36 @@
+// What a case leaves: whether another may follow, and where the next byte of the output goes.
+ghost use Prim.Native.Nat.{_≤_};
+ghost use mathlib.Core.Path.{_≡_};
+
+pub struct Step {
+    pub more: bool,
+    pub place: usize,
+}
+
+// A case is answered.
+pub fn answered(at: usize) -> Step
+    ensures { λ r. ⌜ r .place ≡ at ⌝ }
+{
+    Step {
+        more: true,
+        place: at,
+    }
+}
+
+// The input is at its end.
+pub fn last(at: usize) -> Step
+    ensures { λ r. ⌜ r .place ≡ at ⌝ }
+{
+    Step {
+        more: false,
+        place: at,
+    }
+}
+
+// A case that cannot be answered.
+pub fn bad_case(out: &mut [u8; 4096], at: usize) -> Step
+    requires { ⌜ at ≤ 4096 ⌝ }
+    ensures { λ r. ⌜ r .place ≤ 4096 ⌝ }
+{
+    last(text::word(out, at, b"bad case\n"))
+}
