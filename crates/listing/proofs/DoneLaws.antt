@@ -1,11 +1,11 @@
 -- What list and judge settle, from what their steps do. Assumes nothing.
-use Prim.Native.Nat.{ℕ, _+_, _*_, _-_, _≤_, _<_}
-use mathlib.Core.Path.{_≡_, refl, sym, _∙_}
+use Prim.Native.Nat.{ℕ, _*_, _≤_}
+use mathlib.Core.Path.{_≡_, refl, ap}
 use mathlib.Core.Logic.{inl, inr}
 use mathlib.Core.Bool.{Bool, false}
 use mathlib.Core.List.{List, [], _∷_, _++_}
 use native.Mathlib.Omega.{arith}
-use lib.ListN.{length, take}
+use lib.ListN.{length, take, drop, length-append}
 use lib.Seq.{length-take-le}
 use Rattle.table.specs.Verdict.{Verdict}
 use Rattle.table.specs.Table.{vertices, Edge, WellFormed}
@@ -47,6 +47,12 @@ module _ (starts targets out : List ℕ) where
         taken = λ _. listed;
         refused = λ wrong. absurd (wrong refl);
       }
+
+-- the list lies within the slice
+pub list-within : (starts targets out out′ : List ℕ) (number found : ℕ) → ListDone starts targets out out′ number found → number ≡ 0 → 2 * found ≤ length out′
+list-within starts targets out out′ number found done e =
+    let listed = done .taken e in
+    omega (arith, ap length (listed .front), length-append (listed .pairs) (drop (2 * found) out), listed .listed .long)
 
 module _ (starts targets : List ℕ) (s t : ℕ) where
   -- a table that is refused is no pair's

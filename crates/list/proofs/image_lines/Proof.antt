@@ -1,0 +1,84 @@
+-- `list::image_lines` meets its contract: an accepted image stands in the fronts of the slices that it was read into. Assumes nothing.
+use mathlib.Core.Path.{sym}
+use native.Mathlib.Omega.{arith}
+use lib.Seq.{length-take-le}
+use Rattle.report.proofs.ReadFronts.{Fronts, read-fronts}
+use borrow.Author.Needs.{needs}
+use Rattle.list.proofs.image_lines.Statement.{statement}
+use Rattle.list.proofs.image_lines.Tie as tie
+
+fronts : (c : tie.Else1) → Fronts (c .before .before .before .before .before .before .before .before .read .last .1 .0) (c .before .before .before .before .before .before .before .before .read .last .1 .1 .0) (c .before .before .before .before .before .before .before .before .read .last .1 .1 .1 .0) (c .before .before .before .before .before .before .before .before .read .result .vertices) (c .before .before .before .before .before .before .before .before .read .result .edges)
+fronts c = read-fronts _ _ _ _ _ _ _ _ _ _ (c .before .before .before .before .before .before .before .before .read .ensures) (c .if1 .left)
+
+read-requires : tie.Need-read-requires
+read-requires c κs = search needs
+
+refusal-requires : tie.Need-refusal-requires
+refusal-requires c κs = search needs
+
+same-length : tie.Need-same-length
+same-length c = search needs
+
+same-length-2 : tie.Need-same-length-2
+same-length-2 c = search needs
+
+same-length-3 : tie.Need-same-length-3
+same-length-3 c = search needs
+
+returns : tie.Need-returns
+returns c = search needs
+
+add-list-lines : tie.Need-add-list-lines
+add-list-lines c = omega (arith, fronts (c .before))
+
+slice-reshare-prefix-list-lines : tie.Need-slice-reshare-prefix-list-lines
+slice-reshare-prefix-list-lines c = fronts (c .before) .starts-within
+
+slice-aggregate-list-lines : tie.Need-slice-aggregate-list-lines
+slice-aggregate-list-lines c = sym (length-take-le _ _ (fronts (c .before .before) .starts-within))
+
+slice-reshare-prefix-list-lines-2 : tie.Need-slice-reshare-prefix-list-lines-2
+slice-reshare-prefix-list-lines-2 c = fronts (c .before .before) .targets-within
+
+slice-aggregate-list-lines-2 : tie.Need-slice-aggregate-list-lines-2
+slice-aggregate-list-lines-2 c = sym (length-take-le _ _ (fronts (c .before .before .before) .targets-within))
+
+list-lines-requires : tie.Need-list-lines-requires
+list-lines-requires c κs = search needs
+
+same-length-4 : tie.Need-same-length-4
+same-length-4 c = search needs
+
+same-length-5 : tie.Need-same-length-5
+same-length-5 c = search needs
+
+same-length-6 : tie.Need-same-length-6
+same-length-6 c = search needs
+
+same-length-7 : tie.Need-same-length-7
+same-length-7 c = search needs
+
+returns-2 : tie.Need-returns-2
+returns-2 c = search needs
+
+pub image-lines-spec : {M : Type 1} → statement M
+image-lines-spec =
+    tie.close
+    (tie.spec
+    read-requires
+    refusal-requires
+    same-length
+    same-length-2
+    same-length-3
+    returns
+    add-list-lines
+    slice-reshare-prefix-list-lines
+    slice-aggregate-list-lines
+    slice-reshare-prefix-list-lines-2
+    slice-aggregate-list-lines-2
+    list-lines-requires
+    same-length-4
+    same-length-5
+    same-length-6
+    same-length-7
+    returns-2)

@@ -1,0 +1,83 @@
+// Lists the superbubbles of the table that stands in the image on standard input: `superbubbles K`, then a line for each, entrance and exit, by rising entrance; or `refused N`.
+ghost use Prim.Native.Nat.{_*_, _≤_};
+ghost use lib.ListN.{length};
+
+// One byte more than the largest image is read, so that a longer stream gets the number that its header earns.
+const MOST: usize = image::Header::LARGEST + 1;
+
+// Puts a line for each pair.
+fn pair_lines(out: &mut [u8; 4096], at: usize, pairs: &[u32], found: usize) -> usize
+    requires { ⌜ (2 * found ≤ length (now pairs)) × (at ≤ 4096) ⌝ }
+    ensures { λ r. ⌜ r ≤ 4096 ⌝ }
+{
+    let mut place = at;
+    let mut k = 0;
+    while k < found {
+        place = text::number(out, place, pairs[2 * k] as u64);
+        place = text::next_number(out, place, pairs[2 * k + 1] as u64);
+        place = text::byte(out, place, b'\n');
+        k += 1;
+    }
+    place
+}
+
+// Puts the list of a table, or `refused N`.
+fn list_lines(
+    out: &mut [u8; 4096],
+    at: usize,
+    starts: &[u32],
+    targets: &[u32],
+    pairs: &mut [u32],
+) -> usize
+    requires { ⌜ at ≤ 4096 ⌝ }
+    ensures { λ r. ⌜ r ≤ 4096 ⌝ }
+{
+    let listed = listing::list(starts, targets, pairs);
+    if listed.number != 0 {
+        return report::refusal(out, at, listed.number);
+    }
+    let found = listed.found;
+    let mut place = text::word(out, at, b"superbubbles");
+    place = text::next_number(out, place, found as u64);
+    place = text::byte(out, place, b'\n');
+    pair_lines(out, place, pairs, found)
+}
+
+// Reads an image into the slices lent, and puts the list of its table, or `refused N`.
+fn image_lines(
+    out: &mut [u8; 4096],
+    image: &[u8],
+    starts: &mut [u32],
+    targets: &mut [u32],
+    counts: &mut [u64],
+    pairs: &mut [u32],
+) -> usize
+    ensures { λ r. ⌜ r ≤ 4096 ⌝ }
+{
+    let sizes = image::read(image, starts, targets, counts);
+    if sizes.number != 0 {
+        return report::refusal(out, 0, sizes.number);
+    }
+    let n = sizes.vertices;
+    let m = sizes.edges;
+    list_lines(out, 0, &starts[..n + 1], &targets[..m], pairs)
+}
+
+fn main() {
+    let mut stream = [0u8; MOST];
+    let count = io::read_full(libc::STDIN_FILENO, &mut stream);
+    let mut starts = [0u32; 2049];
+    let mut targets = [0u32; 8192];
+    let mut counts = [0u64; 2048];
+    let mut pairs = [0u32; 4096];
+    let mut out = io::buffer();
+    let end = image_lines(
+        &mut out,
+        &stream[..count],
+        &mut starts,
+        &mut targets,
+        &mut counts,
+        &mut pairs,
+    );
+    text::flush(&out, end);
+}
