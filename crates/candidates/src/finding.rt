@@ -1,0 +1,121 @@
+// One search from each vertex that is not interior to a superbubble found before. Where it gives a superbubble with an interior, that interior is ruled out:
+// no candidate begins in it. An entrance's exit, or n for none, stands in `exits`.
+ghost use Prim.Native.Nat.{_+_, _<_};
+ghost use mathlib.Core.Path.{_≡_};
+ghost use lib.ListN.{length};
+ghost use Rattle.table.specs.Table.{vertices, Below};
+ghost use Rattle.search.specs.Steps.{Zeros};
+ghost use Rattle.candidates.specs.Candidates.{entrances, Findable, Found};
+ghost use Rattle.candidates.specs.Steps.{RuledOut, Settling, Settled, Notable, Noted, Scan};
+use search::Exit;
+use search::count_parents;
+use search::search;
+
+// Sets each number to 0.
+fn clear(exits: &mut [u32])
+    ensures { λ r. ⌜ Zeros (now (exits .entry)) (now (exits .exit)) ⌝ }
+{
+    let mut v = 0;
+    while v < exits.len() {
+        exits[v] = 0;
+        v += 1;
+    }
+}
+
+// Gives each of the vertices the mark for none.
+fn rule_out(interior: &[u32], exits: &mut [u32], none: u32)
+    requires { ⌜ Below (length (now exits)) (now interior) ⌝ }
+    ensures { λ r. ⌜ RuledOut (now (interior .entry)) (now (exits .entry)) (now (exits .exit)) none ⌝ }
+{
+    let mut k = 0;
+    while k < interior.len() {
+        let v = interior[k] as usize;
+        exits[v] = none;
+        k += 1;
+    }
+}
+
+// Settles s, with exit t and k vertices in U less t: without an interior it has none, else its interior is ruled out.
+fn settle(order: &[u32], exits: &mut [u32], s: usize, t: u32, k: usize)
+    requires { ⌜ Settling (now order) (now exits) s k ⌝ }
+    ensures { λ r. ⌜ Settled (now (order .entry)) (now (exits .entry)) (now (exits .exit)) s t k ⌝ }
+{
+    let none = exits.len() as u32;
+    if k < 2 {
+        exits[s] = none;
+        return;
+    }
+    exits[s] = t;
+    rule_out(&order[1..k], exits, none);
+}
+
+// Notes what the search from s found.
+fn note(order: &[u32], exits: &mut [u32], s: usize, exit: Exit)
+    requires { ⌜ Notable (now order) (now exits) s exit ⌝ }
+    ensures { λ r. ⌜ Noted (now (order .entry)) (now (exits .entry)) (now (exits .exit)) s exit ⌝ }
+{
+    match exit {
+        Exit::At(t, k) => settle(order, exits, s, t, k),
+        Exit::Nothing => exits[s] = exits.len() as u32,
+    }
+}
+
+// Passes one entrance more. One that is ruled out is not searched from: whatever it begins lies in the interior that it lies in.
+fn pass(
+    starts: &[u32],
+    targets: &[u32],
+    parents: &[u32],
+    left: &mut [u32],
+    order: &mut [u32],
+    exits: &mut [u32],
+    s: usize,
+)
+    requires { ⌜ Scan (now starts) (now targets) (now parents) (now left) (now order) (now exits) s ⌝ }
+    requires { ⌜ s < vertices (now starts) ⌝ }
+    ensures { λ r. ⌜ Scan (now (starts .entry)) (now (targets .entry)) (now (parents .entry)) (now (left .exit)) (now (order .exit)) (now (exits .exit)) (s + 1) ⌝ }
+{
+    if exits[s] as usize == exits.len() {
+        return;
+    }
+    let exit = search(starts, targets, parents, left, order, s as u32);
+    note(order, exits, s, exit);
+}
+
+// How many entrances have an exit.
+fn count(exits: &[u32]) -> usize
+    ensures { λ r. ⌜ r ≡ length (entrances (now (exits .entry))) ⌝ }
+{
+    let mut found = 0;
+    let mut s = 0;
+    while s < exits.len() {
+        if (exits[s] as usize) < exits.len() {
+            found += 1;
+        }
+        s += 1;
+    }
+    found
+}
+
+// Finds the candidates: each entrance's exit, and how many there are. The parents' counts are left as the search takes them.
+pub fn find(
+    starts: &[u32],
+    targets: &[u32],
+    parents: &mut [u32],
+    left: &mut [u32],
+    order: &mut [u32],
+    exits: &mut [u32],
+) -> usize
+    requires { ⌜ Findable (now starts) (now targets) (now parents) (now left) (now order) (now exits) ⌝ }
+    ensures { λ r. ⌜ Found (now (starts .entry)) (now (targets .entry)) (now (parents .exit)) (now (left .exit)) (now (order .exit)) (now (exits .exit)) r ⌝ }
+{
+    count_parents(targets, parents);
+    count_parents(targets, left);
+    clear(exits);
+    let n = starts.len() - 1;
+    let mut s: usize = 0;
+    while s < n {
+        pass(starts, targets, parents, left, order, exits, s);
+        s += 1;
+    }
+    count(exits)
+}
