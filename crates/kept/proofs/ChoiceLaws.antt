@@ -1,0 +1,43 @@
+-- Laws of the choice among the children of a row: the first, and one child more. Assumes nothing.
+use Prim.Native.Nat.{ℕ, _+_, _≤_, _<_}
+use mathlib.Core.Path.{_≡_, refl}
+use mathlib.Core.List.{List}
+use native.Mathlib.Nat.{le-refl}
+use native.Mathlib.Omega.{arith}
+use borrow.Author.Count.{below-more}
+use lib.ListN.{getD}
+use Rattle.rule.specs.Tables.{count-of}
+use Rattle.rule.proofs.ByNext.{worth}
+use Rattle.kept.specs.Steps.{Chosen}
+
+module _ {row counts best : List ℕ} {t : ℕ} where
+  pub chosen-one : {gain : ℕ} → gain ≡ worth (count-of counts) t (count-of best) (getD row 0 0) → Chosen row counts best t 1 (getD row 0 0) gain
+  chosen-one q = record {
+    place = 0;
+    passed = omega arith;
+    stands = refl;
+    value = q;
+    largest = λ j l. let z : j ≡ 0 = omega arith in rw (z, q) (le-refl _);
+    first = λ j l. absurd (omega arith);
+  }
+
+  module _ {k child gain more : ℕ} (c : Chosen row counts best t k child gain) (q : more ≡ worth (count-of counts) t (count-of best) (getD row k 0)) where
+    pub chosen-larger : gain < more → Chosen row counts best t (k + 1) (getD row k 0) more
+    chosen-larger h = record {
+      place = k;
+      passed = omega arith;
+      stands = refl;
+      value = q;
+      largest = below-more _ _ (λ j l. omega (arith, c .largest j l)) (omega arith);
+      first = λ j l. omega (arith, c .largest j l);
+    }
+
+    pub chosen-still : more ≤ gain → Chosen row counts best t (k + 1) child gain
+    chosen-still h = record {
+      place = c .place;
+      passed = omega (arith, c .passed);
+      stands = c .stands;
+      value = c .value;
+      largest = below-more _ _ (c .largest) (omega arith);
+      first = c .first;
+    }

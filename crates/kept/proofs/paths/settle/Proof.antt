@@ -1,0 +1,122 @@
+-- `kept::paths::settle` meets its contract. The loop's invariant: the visited vertices from place k on are settled. Assumes nothing.
+use Prim.Native.Nat.{suc, _-_, _≤_, _<_}
+use mathlib.Core.Path.{_≡_, refl}
+use native.Mathlib.Omega.{arith}
+use lib.ListN.{length, getD, length-set}
+use borrow.Author.Needs.{needs}
+use Rattle.table.proofs.RowLaws.{row-lies}
+use Rattle.kept.specs.Steps.{SettledFrom}
+use Rattle.kept.proofs.OrderLaws.{visited-below}
+use Rattle.kept.proofs.SettleLaws.{settle-choosable, settle-more}
+use Rattle.kept.proofs.paths.settle.Statement.{statement}
+use Rattle.kept.proofs.paths.settle.Tie as tie
+
+abbrev Inv-loop : tie.InvT-loop
+Inv-loop starts targets counts visited t best₀ next₀ k₀ best next k =
+    (k ≤ length visited) × (length best ≡ length best₀) × (length next ≡ length next₀) × SettledFrom starts targets counts visited t next₀ k best next
+
+abbrev μ-loop : tie.MeasureT-loop
+μ-loop starts targets counts visited t best₀ next₀ k₀ best next k = k
+
+-- the vertex of this turn
+below : (c : tie.In-loop Inv-loop μ-loop) →
+    let lent = c .before .before .before .before .before .before .before .before .args in
+    getD (lent .visited .now) (c .before .loop .k - 1) 0 < length (lent .starts .now) - 1
+below c = let st = c .before .before .before .before .before .before .before .before in
+    visited-below (st .pre .order) (c .before .loop .k - 1) (omega arith)
+
+-- those after it are settled
+later : (c : tie.In-loop Inv-loop μ-loop) →
+    let lent = c .before .before .before .before .before .before .before .before .args in
+    let at = c .before .loop in
+    SettledFrom (lent .starts .now) (lent .targets .now) (lent .counts .now) (lent .visited .now) (lent .t) (lent .next .now) (suc (at .k - 1)) (at .best) (at .next)
+later c = let at = c .before .loop in
+    let one : suc (at .k - 1) ≡ at .k = omega arith in
+    rw one (at .inv .3)
+
+loop-holds : tie.Need-loop-holds Inv-loop μ-loop
+loop-holds c = (
+  omega arith,
+  refl,
+  refl,
+  record { settled = λ i h b. absurd (omega arith); most = λ i h b. absurd (omega arith); elsewhere = λ v n. refl },
+)
+
+sub-k : tie.Need-sub-k Inv-loop μ-loop
+sub-k c = search needs
+
+mul-v : tie.Need-mul-v Inv-loop μ-loop
+mul-v c = omega arith
+
+shared-slice-read-v : tie.Need-shared-slice-read-v Inv-loop μ-loop
+shared-slice-read-v c = omega arith
+
+cast-v : tie.Need-cast-v Inv-loop μ-loop
+cast-v c = omega (arith, c .shared-slice-known5 .given (c .before .before .loop .k - 1))
+
+row-requires : tie.Need-row-requires Inv-loop μ-loop
+row-requires c κs = let p = c .before .before .before .before .before .before .before .before .before .pre in
+    row-lies _ _ (p .counted .well-formed .starts-fit) _ (below (c .before))
+
+choose-requires : tie.Need-choose-requires Inv-loop μ-loop
+choose-requires c κs = let p = c .before .before .before .before .before .before .before .before .before .before .before .pre in
+    let at = c .before .before .before .before .loop in
+    rw (c .before .row .ensures) (settle-choosable p (at .k - 1) (omega arith) (later (c .before .before .before)) (omega (arith, p .best-room, at .inv .1)) (omega (arith, p .next-room, at .inv .2)))
+
+mul-best : tie.Need-mul-best Inv-loop μ-loop
+mul-best c = omega (arith, below (c .before .before .before .before), c .before .before .before .before .before .before .before .before .before .before .before .before .pre .best-room, c .before .before .before .before .before .loop .inv .1)
+
+slice-write-best : tie.Need-slice-write-best Inv-loop μ-loop
+slice-write-best c = omega (arith, below (c .before .before .before .before), c .before .before .before .before .before .before .before .before .before .before .before .before .pre .best-room, c .before .before .before .before .before .loop .inv .1)
+
+mul-next : tie.Need-mul-next Inv-loop μ-loop
+mul-next c = omega (arith, below (c .before .before .before .before), c .before .before .before .before .before .before .before .before .before .before .before .before .pre .next-room, c .before .before .before .before .before .loop .inv .2)
+
+slice-write-next : tie.Need-slice-write-next Inv-loop μ-loop
+slice-write-next c = omega (arith, below (c .before .before .before .before), c .before .before .before .before .before .before .before .before .before .before .before .before .pre .next-room, c .before .before .before .before .before .loop .inv .2)
+
+loop-less : tie.Need-loop-less Inv-loop μ-loop
+loop-less c = omega arith
+
+loop-again : tie.Need-loop-again Inv-loop μ-loop
+loop-again c = let p = c .before .before .before .before .before .before .before .before .before .before .before .before .pre in
+    let at = c .before .before .before .before .before .loop in
+    let chosen = rw (c .before .before .row .ensures) at (c .choose .ensures) in (
+      omega arith,
+      simp length-set (at .inv .1),
+      simp length-set (at .inv .2),
+      settle-more p (at .k - 1) (omega arith) (later (c .before .before .before .before)) (omega (arith, p .best-room, at .inv .1)) (omega (arith, p .next-room, at .inv .2)) chosen,
+    )
+
+same-length : tie.Need-same-length Inv-loop μ-loop
+same-length c = c .before .loop .inv .1
+
+same-length-2 : tie.Need-same-length-2 Inv-loop μ-loop
+same-length-2 c = c .before .loop .inv .2
+
+returns : tie.Need-returns Inv-loop μ-loop
+returns c = let none : c .before .loop .k ≡ 0 = omega arith in
+    rw none at (c .before .loop .inv .3)
+
+pub settle-spec : {M : Type 1} → statement M
+settle-spec =
+    tie.close
+    (tie.spec
+    Inv-loop
+    μ-loop
+    loop-holds
+    sub-k
+    mul-v
+    shared-slice-read-v
+    cast-v
+    row-requires
+    choose-requires
+    mul-best
+    slice-write-best
+    mul-next
+    slice-write-next
+    loop-less
+    loop-again
+    same-length
+    same-length-2
+    returns)

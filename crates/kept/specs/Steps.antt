@@ -1,0 +1,85 @@
+-- What the parts of keeping a path do: what a child is worth, the best child of a row, each visited vertex settled, each passed. Assumes nothing.
+use Prim.Native.Nat.{ℕ, suc, _+_, _≤_, _<_}
+use mathlib.Core.Path.{_≡_}
+use mathlib.Core.Logic.{_≢_}
+use mathlib.Core.List.{List, [], _∷_, _++_}
+use lib.ListN.{length, getD, set, drop}
+use Rattle.table.specs.Table.{vertices, In, Below, Edge, Counted, countSum}
+use Rattle.search.specs.Search.{Visited}
+use Rattle.rule.specs.Lists.{sum}
+use Rattle.rule.specs.Tables.{count-of}
+use Rattle.rule.proofs.ByNext.{worth, Settled}
+
+-- what u is worth can be said in 64 bits
+pub record Weighable (counts best : List ℕ) (t u : ℕ) : Type 0 where
+  pub counted : u < length counts
+  pub room : u < length best
+  pub fits : u ≢ t → getD counts u 0 + getD best u 0 ≤ 18446744073709551615
+
+-- a row with a child, whose children can be weighed
+pub record Choosable (row counts best : List ℕ) (t : ℕ) : Type 0 where
+  pub some : 0 < length row
+  pub each : (j : ℕ) → j < length row → Weighable counts best t (getD row j 0)
+
+-- of the first k children of a row none is worth more than this one, and none before it is worth as much
+pub record Chosen (row counts best : List ℕ) (t k child gain : ℕ) : Type 0 where
+  pub place : ℕ
+  pub passed : place < k
+  pub stands : getD row place 0 ≡ child
+  pub value : gain ≡ worth (count-of counts) t (count-of best) child
+  pub largest : (j : ℕ) → j < k → worth (count-of counts) t (count-of best) (getD row j 0) ≤ gain
+  pub first : (j : ℕ) → j < place → worth (count-of counts) t (count-of best) (getD row j 0) < gain
+
+-- a table with its counts, and the visiting order of a superbubble less its exit
+pub record Settleable (starts targets counts visited : List ℕ) (t : ℕ) (best next : List ℕ) : Type 0 where
+  pub counted : Counted starts targets counts
+  pub order : Visited starts targets visited (getD visited 0 0) t (length visited)
+  pub best-room : vertices starts ≤ length best
+  pub next-room : vertices starts ≤ length next
+
+-- the visited vertices from place k on have their best sum and their best child; a sum is at most that of all later counts
+pub record SettledFrom (starts targets counts visited : List ℕ) (t : ℕ) (next : List ℕ) (k : ℕ) (best′ next′ : List ℕ) : Type 0 where
+  pub settled : (i : ℕ) → k ≤ i → i < length visited → Settled (Edge starts targets) (count-of counts) t (count-of best′) (count-of next′) (getD visited i 0)
+  pub most : (i : ℕ) → k ≤ i → i < length visited → getD best′ (getD visited i 0) 0 ≤ sum (count-of counts) (drop (suc i) visited)
+  pub elsewhere : (v : ℕ) → (In v visited → ⊥) → getD next′ v 0 ≡ getD next v 0
+
+-- v can be passed
+pub record Passable (counts next out : List ℕ) (v dropped : ℕ) : Type 0 where
+  pub counted : v < length counts
+  pub next-room : v < length next
+  pub out-room : v < length out
+  pub fits : dropped + getD counts v 0 ≤ 18446744073709551615
+
+-- v is the next vertex of the kept path, or it is dropped
+pub data Step (counts next out : List ℕ) (none v kept dropped : ℕ) : List ℕ → List ℕ → ℕ → ℕ → Type 0 where
+  keeps : v ≡ kept → Step counts next out none v kept dropped next out (getD next v 0) dropped
+  drops : v ≢ kept → Step counts next out none v kept dropped (set next v none) (set out v 0) kept (dropped + getD counts v 0)
+
+-- the visited vertices can be passed: they are different, and their counts' sum fits
+pub record Siftable (counts visited next out : List ℕ) : Type 0 where
+  pub some : 0 < length visited
+  pub below : Below (length counts) visited
+  pub apart : (i j : ℕ) → i < length visited → j < length visited → getD visited i 0 ≡ getD visited j 0 → i ≡ j
+  pub sum-fits : countSum counts ≤ 1099511627775
+  pub next-room : length counts ≤ length next
+  pub out-room : length counts ≤ length out
+
+-- a at each of the listed places
+abbrev pub puts : List ℕ → List ℕ → ℕ → List ℕ
+puts xs [] a = xs
+puts xs (v ∷ l) a = set (puts xs l a) v a
+
+-- the first k visited vertices are passed: the entrance, the inner vertices of the path by next up to `kept`, and the others, which are gone
+pub data Passing (visited next : List ℕ) : ℕ → List ℕ → List ℕ → ℕ → Type 0 where
+  begun : Passing visited next 1 [] [] (getD next (getD visited 0 0) 0)
+  keeps : {k : ℕ} {arm gone : List ℕ} {kept : ℕ} → Passing visited next k arm gone kept → getD visited k 0 ≡ kept → Passing visited next (suc k) (arm ++ (kept ∷ [])) gone (getD next kept 0)
+  drops : {k : ℕ} {arm gone : List ℕ} {kept : ℕ} → Passing visited next k arm gone kept → getD visited k 0 ≢ kept → Passing visited next (suc k) arm (getD visited k 0 ∷ gone) kept
+
+-- what passing them has changed
+pub record Sifted (counts visited next out : List ℕ) (none k : ℕ) (next′ out′ : List ℕ) (kept dropped : ℕ) : Type 0 where
+  pub arm : List ℕ
+  pub gone : List ℕ
+  pub passing : Passing visited next k arm gone kept
+  pub no-rows : next′ ≡ puts next gone none
+  pub no-counts : out′ ≡ puts out gone 0
+  pub dropped-sum : dropped ≡ sum (count-of counts) gone

@@ -1,0 +1,99 @@
+// The kept path along the visiting order: backward to find each vertex's best child, forward to part the kept vertices from the dropped ones.
+ghost use lib.ListN.{length, getD};
+ghost use Rattle.kept.specs.Steps.{Settleable, SettledFrom, Passable, Step, Siftable, Sifted};
+ghost use Rattle.kept.specs.Keeping.{Keepable, KeptDone};
+use crate::children::choose;
+
+// The next vertex of the kept path, and the sum of the counts dropped so far.
+pub struct Along {
+    pub kept: u32,
+    pub dropped: u64,
+}
+
+// The best sum and the best child of each visited vertex, the last first.
+fn settle(
+    starts: &[u32],
+    targets: &[u32],
+    counts: &[u64],
+    visited: &[u32],
+    t: u32,
+    best: &mut [u64],
+    next: &mut [u32],
+)
+    requires { ⌜ Settleable (now starts) (now targets) (now counts) (now visited) t (now best) (now next) ⌝ }
+    ensures { λ r. ⌜ SettledFrom (now (starts .entry)) (now (targets .entry)) (now (counts .entry)) (now (visited .entry)) t (now (next .entry)) 0 (now (best .exit)) (now (next .exit)) ⌝ }
+{
+    let mut k = visited.len();
+    while k > 0 {
+        k -= 1;
+        let v = visited[k] as usize;
+        let choice = choose(table::row(starts, targets, v), counts, best, t);
+        best[v] = choice.gain;
+        next[v] = choice.child;
+    }
+}
+
+// Passes v: it is the next vertex of the kept path, or it is dropped and has no row and no count any more.
+fn pass(counts: &[u64], next: &mut [u32], out: &mut [u64], none: u32, v: u32, along: Along) -> Along
+    requires { ⌜ Passable (now counts) (now next) (now out) v (along .dropped) ⌝ }
+    ensures { λ r. ⌜ Step (now (counts .entry)) (now (next .entry)) (now (out .entry)) none v (along .kept) (along .dropped) (now (next .exit)) (now (out .exit)) (r .kept) (r .dropped) ⌝ }
+{
+    let x = v as usize;
+    if v == along.kept {
+        return Along {
+            kept: next[x],
+            dropped: along.dropped,
+        };
+    }
+    let own = counts[x];
+    next[x] = none;
+    out[x] = 0;
+    Along {
+        kept: along.kept,
+        dropped: along.dropped + own,
+    }
+}
+
+// Passes the visited vertices after the entrance. The order leads along the kept path.
+fn sift(counts: &[u64], visited: &[u32], next: &mut [u32], out: &mut [u64], none: u32) -> Along
+    requires { ⌜ Siftable (now counts) (now visited) (now next) (now out) ⌝ }
+    ensures { λ r. ⌜ Sifted (now (counts .entry)) (now (visited .entry)) (now (next .entry)) (now (out .entry)) none (length (now (visited .entry))) (now (next .exit)) (now (out .exit)) (r .kept) (r .dropped) ⌝ }
+{
+    let s = visited[0] as usize;
+    let mut along = Along {
+        kept: next[s],
+        dropped: 0,
+    };
+    let mut k = 1;
+    while k < visited.len() {
+        along = pass(counts, next, out, none, visited[k], along);
+        k += 1;
+    }
+    along
+}
+
+// Keeps the best path of one candidate, whose U less its exit t is visited: `next` takes the vertex after each vertex of the path, and n + 1 for each
+// dropped one; `out` takes 0 for each dropped vertex, and the vertex after the entrance gets their counts.
+pub fn keep(
+    starts: &[u32],
+    targets: &[u32],
+    counts: &[u64],
+    visited: &[u32],
+    t: u32,
+    best: &mut [u64],
+    next: &mut [u32],
+    out: &mut [u64],
+)
+    requires { ⌜ Keepable (now starts) (now targets) (now counts) (now visited) t (now best) (now next) (now out) ⌝ }
+    ensures { λ r. ⌜ KeptDone (now (starts .entry)) (now (targets .entry)) (now (counts .entry)) (getD (now (visited .entry)) 0 0) t (now (best .entry)) (now (next .entry)) (now (out .entry)) (now (best .exit)) (now (next .exit)) (now (out .exit)) ⌝ }
+{
+    settle(starts, targets, counts, visited, t, best, next);
+    let along = sift(counts, visited, next, out, starts.len() as u32);
+    let dropped = along.dropped;
+    let s = visited[0] as usize;
+    let first = next[s];
+    if first != t {
+        let x = first as usize;
+        out[x] = counts[x] + dropped;
+    }
+}
