@@ -5,3 +5,4 @@ pub mod SettleLaws
 pub mod PassLaws
 pub mod PathLaws
 pub mod KeepLaws
+pub mod DoneLaws
