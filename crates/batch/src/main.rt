@@ -5,6 +5,7 @@ mod bodies;
 mod bytes;
 mod checks;
 mod images;
+mod lists;
 mod step;
 
 ghost use Prim.Native.Nat.{_≤_, _<_};
@@ -13,6 +14,8 @@ use checks::check_case;
 use images::read_case;
 use images::show_case;
 use images::write_case;
+use lists::judge_case;
+use lists::list_case;
 use step::Step;
 use step::bad_case;
 use step::last;
@@ -32,6 +35,7 @@ fn answer(
     targets: &mut [u32],
     counts: &mut [u64],
     image: &mut [u8],
+    list: &mut [u32],
 ) -> Step
     requires { ⌜ at ≤ 4096 ⌝ }
     ensures { λ r. ⌜ r .place ≤ 4096 ⌝ }
@@ -44,6 +48,8 @@ fn answer(
         b't' => check_case(out, at, body, starts, targets, counts),
         b'w' => write_case(out, at, body, starts, targets, counts, image),
         b'r' => read_case(out, at, body, starts, targets, counts),
+        b'l' => list_case(out, at, body, starts, targets, list),
+        b'j' => judge_case(out, at, body, starts, targets),
         _ => bad_case(out, at),
     }
 }
@@ -57,6 +63,7 @@ fn one_case(
     targets: &mut [u32],
     counts: &mut [u64],
     image: &mut [u8],
+    list: &mut [u32],
 ) -> Step
     requires { ⌜ at ≤ 4096 ⌝ }
     ensures { λ r. ⌜ r .place ≤ 4096 ⌝ }
@@ -82,6 +89,7 @@ fn one_case(
         targets,
         counts,
         image,
+        list,
     )
 }
 
@@ -101,11 +109,12 @@ fn all_cases(
     targets: &mut [u32],
     counts: &mut [u64],
     image: &mut [u8],
+    list: &mut [u32],
 ) {
     let mut turns = u64::MAX;
     let mut at = 0;
     while turns > 0 {
-        let step = one_case(out, at, body, starts, targets, counts, image);
+        let step = one_case(out, at, body, starts, targets, counts, image, list);
         at = step.place;
         turns = turns_left(turns, step.more);
     }
@@ -119,6 +128,7 @@ fn main() {
     let mut targets = [0u32; 16_384];
     let mut counts = [0u64; 4096];
     let mut image = [0u8; 65_536];
+    let mut list = [0u32; 8192];
     all_cases(
         &mut out,
         &mut body,
@@ -126,5 +136,6 @@ fn main() {
         &mut targets,
         &mut counts,
         &mut image,
+        &mut list,
     );
 }

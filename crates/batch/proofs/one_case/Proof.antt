@@ -40,7 +40,7 @@ slice-relend-prefix-answer : tie.Need-slice-relend-prefix-answer
 slice-relend-prefix-answer c = search needs
 
 slice-aggregate-answer : tie.Need-slice-aggregate-answer
-slice-aggregate-answer c = sym (length-take-le (c .before .before .before .body-length .result) (c .before .before .before .before .before .before .before .before .before .before .before .before .before .before .before .args .body .now) (omega arith))
+slice-aggregate-answer c = sym (length-take-le (c .before .before .before .body-length .result) (c .before .before .before .before .before .before .before .before .before .before .before .before .before .before .before .before .args .body .now) (omega arith))
 
 answer-requires : tie.Need-answer-requires
 answer-requires c κs = search needs
@@ -59,6 +59,9 @@ same-length-4 c = search needs
 
 same-length-5 : tie.Need-same-length-5
 same-length-5 c = search needs
+
+same-length-6 : tie.Need-same-length-6
+same-length-6 c = search needs
 
 returns-4 : tie.Need-returns-4
 returns-4 c = search needs
@@ -85,4 +88,5 @@ one-case-spec =
     same-length-3
     same-length-4
     same-length-5
+    same-length-6
     returns-4)
