@@ -3,6 +3,9 @@
 /// What is wrong, in words, or nothing.
 pub type Fault = Option<String>;
 
+/// How many failures are told in words.
+const MOST_TOLD: usize = 500;
+
 #[derive(Default)]
 pub struct Count {
     passed: usize,
@@ -15,7 +18,12 @@ impl Count {
             None => self.passed += 1,
             Some(fault) => {
                 self.failed += 1;
-                println!("FAILED {name}: {fault}");
+                if self.failed <= MOST_TOLD {
+                    println!("FAILED {name}: {fault}");
+                }
+                if self.failed == MOST_TOLD {
+                    println!("further failures are counted and not told");
+                }
             }
         }
     }

@@ -33,14 +33,14 @@ const REACHED: [Reached; 12] = [
     ("list", "with none", 1_000, |line| line == [0, 0]),
     ("list", "with one superbubble or more", 5_000, |line| line[1] >= 1),
     ("list", "with four or more", 1_000, |line| line[1] >= 4),
-    ("list", "with a thousand or more", 4, |line| line[1] >= 1_000),
-    ("judge", "superbubbles", 2_000, |line| line[1] == 1),
+    ("list", "with a thousand or more", 2, |line| line[1] >= 1_000),
+    ("judge", "superbubbles", 1_500, |line| line[1] == 1),
     ("judge", "superbubbles with an interior", 500, |line| line[2] > 2),
     ("judge", "superbubbles of more than 64 vertices", 20, |line| line[2] > 64),
     ("judge", "superbubbles of more than 1,000 vertices", 5, |line| line[2] > 1_000),
     ("fold", "that fold one", 2_000, |line| line[1] == 1),
     ("fold", "that fold two or more", 500, |line| line[1] >= 2),
-    ("fold", "that fold some and leave some", 500, |line| line[1] > 0 && line[2] > 0),
+    ("fold", "that fold some and leave some", 300, |line| line[1] > 0 && line[2] > 0),
     ("fold", "that find nothing to fold", 500, |line| line[..3] == [0, 0, 0]),
 ];
 

@@ -13,10 +13,10 @@ use crate::turns::Turns;
 
 impl Cases {
     pub fn folds(&mut self) {
-        for _ in 0..4_000 {
+        for _ in 0..2_500 {
             self.fold("any graph without a cycle", acyclic_small);
         }
-        for _ in 0..7_000 {
+        for _ in 0..8_500 {
             self.fold("a small graph rich in superbubbles", bubbly_small);
         }
         for _ in 0..400 {

@@ -3,7 +3,7 @@
 
 use crate::cases::Cases;
 use crate::damages::{self, OF_TABLE};
-use crate::graphs;
+use crate::graphs::{self, Edge};
 use crate::operations::{Operation, LONGEST_LIST};
 use crate::quick;
 use crate::random::Random;
@@ -104,26 +104,27 @@ impl Cases {
 
     fn every_pair(&mut self, name: &str, make: impl Fn(&mut Random) -> Table) {
         let table = make(&mut self.next_random());
-        let pairs = shapes::pairs(table.counts.len());
-        let pairs: Vec<_> = pairs.iter().map(|&(s, t)| (s as u32, t as u32)).collect();
+        let pairs = in_32_bits(&shapes::pairs(table.counts.len()));
         self.judged(name, table, &pairs);
     }
 
-    /// So many pairs that are superbubbles, as many made of the entrance of one and the exit of
-    /// another, and as many that may be anything.
+    /// The largest superbubble; so many others; as many pairs made of the entrance of one and the exit
+    /// of another; and as many that may be anything.
     fn some_pairs(&mut self, name: &str, each: usize, make: impl Fn(&mut Random) -> Table) {
         let random = &mut self.next_random();
         let table = make(random);
         let found = (quick::WAY.superbubbles)(&table);
-        let mut pairs = Vec::new();
+        let largest = found.iter().max_by_key(|one| one.all.len());
+        let mut pairs: Vec<Edge> = largest.map(|one| one.pair()).into_iter().collect();
         for _ in 0..each {
             if !found.is_empty() {
-                let (s, t) = found[random.place(found.len())].pair();
-                let other = found[random.place(found.len())].exit;
-                pairs.extend([(s as u32, t as u32), (s as u32, other as u32)]);
+                let one = &found[random.place(found.len())];
+                let other = &found[random.place(found.len())];
+                pairs.extend([one.pair(), (one.entrance, other.exit)]);
             }
-            pairs.push(any_pair(random, table.counts.len()));
         }
+        let mut pairs = in_32_bits(&pairs);
+        pairs.extend((0..each).map(|_| any_pair(random, table.counts.len())));
         self.judged(name, table, &pairs);
     }
 }
@@ -136,6 +137,10 @@ fn any_small(random: &mut Random) -> Table {
 fn bubbly_small(random: &mut Random) -> Table {
     let n = random.between(6, 10);
     shapes::bubbly(random, n).table(random)
+}
+
+fn in_32_bits(pairs: &[Edge]) -> Vec<(u32, u32)> {
+    pairs.iter().map(|&(s, t)| (s as u32, t as u32)).collect()
 }
 
 /// A pair of a table with n vertices; now and then one that it does not have.
