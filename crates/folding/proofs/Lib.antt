@@ -1,0 +1,4 @@
+pub mod DoneLaws
+pub mod FillLaws
+pub mod TurnLaws
+pub mod TurningLaws
