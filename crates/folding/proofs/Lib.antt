@@ -1,3 +1,4 @@
+pub mod Demand
 pub mod DoneLaws
 pub mod FillLaws
 pub mod TurnLaws
