@@ -8,7 +8,7 @@ use native.Mathlib.Decide.{decLt}
 use lib.ListN.{length, getD, drop, length-drop}
 use lib.Seq.{getD-drop}
 use Rattle.table.specs.Table.{vertices, In, Below, Edge, WellFormed}
-use Rattle.table.proofs.RowLaws.{edge-below}
+use Rattle.table.proofs.RowLaws.{edges-below}
 use Rattle.bubble.specs.Superbubble.{Interior, Superbubble}
 use Rattle.bubble.proofs.Facts.{predecessor}
 use Rattle.bubble.proofs.Number.{exit-below}
@@ -22,10 +22,6 @@ use Rattle.search.proofs.TallyLaws.{parents-same}
 use Rattle.candidates.specs.Candidates.{entrances, Found}
 use Rattle.candidates.specs.Steps.{inner, Notable, Noted, Filled, Passed, Scan}
 use Rattle.candidates.proofs.PassLaws.{pass-start, pass-ruled, pass-none, pass-taken, pass-most, pass-sound, pass-no-other}
-
--- the edges of a well-formed table join vertices
-edges-below : {starts targets : List ℕ} → WellFormed starts targets → (u v : ℕ) → Edge starts targets u v → (u < vertices starts) × (v < vertices starts)
-edges-below {starts} {targets} ok u v e = (e .vertex, edge-below starts targets (ok .targets-below) u v e)
 
 -- what stands behind the first of the first k has a place below k
 inner-place : (v : ℕ) (order : List ℕ) (k : ℕ) → k ≤ length order → In v (inner order k) → (i : ℕ) × (i + 1 < k) × (getD order (i + 1) 0 ≡ v)

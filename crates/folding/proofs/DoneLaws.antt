@@ -11,7 +11,7 @@ use Rattle.table.specs.Table.{vertices, Edge, WellFormed, Counted}
 use Rattle.table.specs.Numbers.{countedDemands}
 use Rattle.table.proofs.VerdictLaws.{goes-on, stops}
 use Rattle.table.proofs.Accepted.{counted-met}
-use Rattle.table.proofs.RowLaws.{edge-below}
+use Rattle.table.proofs.RowLaws.{edges-below}
 use Rattle.bubble.proofs.Number.{Below}
 use Rattle.cycle.specs.Cycle.{Cyclic}
 use Rattle.rule.specs.Fold.{NoCycle, Candidate, first-takes-all, Applied}
@@ -28,9 +28,6 @@ use Rattle.folding.specs.Folding.{foldRoom, noCycle, FoldedAt, FoldDone}
 use Rattle.folding.specs.Turns.{Turns, Turning, FoldReady, WriteRoom, AllAre}
 use Rattle.folding.proofs.TurnLaws.{turns-none, folded-number}
 
-edges-below : (starts targets : List ℕ) → WellFormed starts targets → Below (Edge starts targets) (vertices starts)
-edges-below starts targets ok u v e = (e .vertex, edge-below starts targets (ok .targets-below) u v e)
-
 module _ (starts targets counts exits next out : List ℕ) (budget folded found : ℕ) (ok : Counted starts targets counts) (acyclic : NoCycle (Edge starts targets))
     (candidates : CandidatesFound starts targets exits found) (turns : Turns starts targets counts exits next out budget (vertices starts) folded) where
   -- where one edge stays, it is an edge
@@ -43,7 +40,7 @@ module _ (starts targets counts exits next out : List ℕ) (budget folded found 
       (long : length out ≡ length counts) where
     applied : Applied Candidate first-takes-all (Edge starts targets) (count-of counts) budget (Edge starts₁ targets₁) (count-of out)
     applied =
-        let below₁ : Below (Edge starts₁ targets₁) (vertices starts) = λ u v e. let (a, b) = edges-below starts₁ targets₁ well-formed u v e in (omega arith, omega arith) in
+        let below₁ : Below (Edge starts₁ targets₁) (vertices starts) = λ u v e. let (a, b) = edges-below well-formed u v e in (omega arith, omega arith) in
         record {
           candidates = entrances exits;
           listed = entrances-listed candidates;
@@ -51,7 +48,7 @@ module _ (starts targets counts exits next out : List ℕ) (budget folded found 
           first = rw (candidates .each) (turns .first);
           fit = turns .fit;
           edges =
-              numbered-edges candidate-laws first-takes-all-laws acyclic (turns .fit) (edges-below starts targets (ok .well-formed)) below₁ (turns .numbered)
+              numbered-edges candidate-laws first-takes-all-laws acyclic (turns .fit) (edges-below (ok .well-formed)) below₁ (turns .numbered)
               (λ u h. record { whole = edges .whole u; one = edges .one u h; none = edges .none u });
           added = turns .added;
           emptied = turns .emptied;
@@ -133,10 +130,6 @@ module _ (starts targets counts parents left order exits best next out : List �
         targets-front = written .targets-front;
         counts-front = sym (ap (λ (l : List ℕ). out ++ l) none ∙ append-nil out);
       }
-
--- the first n of a slice of 2,048 are n
-pub front-long : (starts targets list : List ℕ) → WellFormed starts targets → length list ≡ 2048 → length (take (vertices starts) list) ≡ vertices starts
-front-long starts targets list ok long = length-take-le (vertices starts) list (omega (arith, ok .most-vertices))
 
 -- a counts slice whose first n are lent
 pub longer-counts : (starts targets counts : List ℕ) (budget : ℕ) (starts₂ targets₂ counts₂ starts₂′ targets₂′ front : List ℕ) (folded left edges : ℕ) → vertices starts ≤ length counts₂

@@ -10,9 +10,9 @@ use lib.Dec.{ltb}
 use lib.ListN.{length, getD, take, length-take, length-append, length-map}
 use lib.Seq.{take-all, take-append-le}
 use Rattle.table.specs.Table.{vertices, In, Edge, Counted}
-use Rattle.table.proofs.RowLaws.{edge-below}
 use Rattle.bubble.specs.Superbubble.{F, Interior}
-use Rattle.bubble.proofs.Facts.{last-edge, exit-inside}
+use Rattle.bubble.proofs.Facts.{exit-inside}
+use Rattle.search.proofs.InsideLaws.{inside-below}
 use Rattle.search.proofs.OccurrenceLaws.{in-occurs, occurs-in}
 use Rattle.search.specs.Search.{occurrences, Visited}
 use Rattle.rule.specs.Lists.{sum, Follows}
@@ -28,16 +28,6 @@ use Rattle.candidates.proofs.EntranceLaws.{entrance-more, entrance-none}
 use Rattle.kept.specs.Keeping.{KeptDone}
 use Rattle.kept.proofs.DoneLaws.{followed-or-dropped}
 use Rattle.folding.specs.Turns.{Turns}
-
--- each vertex of U is a vertex of the table
-inside-below : (starts targets counts : List ℕ) → Counted starts targets counts → (s t v : ℕ) → s < vertices starts → F (Edge starts targets) s t v → v < vertices starts
-inside-below starts targets counts ok s t v h f =
-    elim (ℕ-discrete v s) [
-      | yes e ↦ rw e h
-      | no other ↦
-          let (u, inside, before, e) = last-edge f other in
-          edge-below starts targets (ok .well-formed .targets-below) u v e
-    ]
 
 -- before the first entrance every row is whole and every count as it was
 pub turns-none : (starts targets counts exits next out : List ℕ) (budget : ℕ) → ((v : ℕ) → v < vertices starts → getD next v 0 ≡ vertices starts)
@@ -145,7 +135,7 @@ module _ (starts targets counts exits next out : List ℕ) (budget s folded : �
     -- what follows on the kept path is a vertex
     next-below : (u w : ℕ) → Follows (s ∷ done .item .arm ++ (t ∷ [])) u w → w < vertices starts
     next-below u w f =
-        inside-below starts targets counts ok s t w entrance
+        inside-below starts targets (ok .well-formed) s t w entrance
         (⊎-elim (λ m. kept .arm .inner w m .inside) (λ m. let e : w ≡ t = List·Memᴰ·eq-of-singleton m in rw e exit-in)
         (List·Memᴰ·append-cases (done .item .arm) (follows-head f)))
 

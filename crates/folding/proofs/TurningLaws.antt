@@ -11,7 +11,7 @@ use Rattle.search.specs.Search.{Searchable, Sought, Visited}
 use Rattle.rule.specs.Fold.{Candidate}
 use Rattle.kept.specs.Keeping.{Keepable, KeptDone}
 use Rattle.kept.proofs.OrderLaws.{visited-front}
-use Rattle.folding.specs.Turns.{Turning}
+use Rattle.folding.specs.Turns.{Turns, Turning}
 use Rattle.folding.proofs.TurnLaws.{turns-pass, turns-spent, turns-own, turns-more}
 
 module _ (starts targets counts parents left order exits best next out : List ℕ) (budget found s folded : ℕ)
@@ -26,9 +26,9 @@ module _ (starts targets counts parents left order exits best next out : List �
         room = omega (arith, turning .order-long);
       }
 
-  -- s is the entrance of no candidate
-  pub turning-pass : length exits ≤ getD exits s 0 → Turning starts targets counts parents left order exits best next out budget found (s + 1) folded
-  turning-pass h =
+  -- s is passed, and nothing else changes
+  turning-on : Turns starts targets counts exits next out budget (s + 1) folded → Turning starts targets counts parents left order exits best next out budget found (s + 1) folded
+  turning-on turns =
       record {
         counted = turning .counted;
         acyclic = turning .acyclic;
@@ -40,25 +40,16 @@ module _ (starts targets counts parents left order exits best next out : List �
         next-long = turning .next-long;
         out-long = turning .out-long;
         passed = omega arith;
-        turns = turns-pass starts targets counts exits next out budget s folded (turning .turns) h;
+        turns = turns
       }
+
+  -- s is the entrance of no candidate
+  pub turning-pass : length exits ≤ getD exits s 0 → Turning starts targets counts parents left order exits best next out budget found (s + 1) folded
+  turning-pass h = turning-on (turns-pass starts targets counts exits next out budget s folded (turning .turns) h)
 
   -- the budget is spent
   pub turning-spent : getD exits s 0 < length exits → budget ≤ folded → Turning starts targets counts parents left order exits best next out budget found (s + 1) folded
-  turning-spent h l =
-      record {
-        counted = turning .counted;
-        acyclic = turning .acyclic;
-        candidates = turning .candidates;
-        parents-counted = turning .parents-counted;
-        whole = turning .whole;
-        order-long = turning .order-long;
-        best-long = turning .best-long;
-        next-long = turning .next-long;
-        out-long = turning .out-long;
-        passed = omega arith;
-        turns = turns-spent starts targets counts exits next out budget s folded (turning .turns) l h;
-      }
+  turning-spent h l = turning-on (turns-spent starts targets counts exits next out budget s folded (turning .turns) l h)
 
   module _ (candidate-here : getD exits s 0 < length exits) (left′ order′ : List ℕ) where
     noted : Candidate (Edge starts targets) s (getD exits s 0)

@@ -8,13 +8,13 @@ use native.Mathlib.Decide.{ℕ-discrete}
 use native.Mathlib.Omega.{arith}
 use lib.ListN.{length, getD, take, replicate}
 use Rattle.table.specs.Table.{vertices, In, Edge, Below, WellFormed}
-use Rattle.table.proofs.RowLaws.{edge-below}
 use Rattle.bubble.specs.Superbubble.{F, Superbubble}
-use Rattle.bubble.proofs.Facts.{exit-inside, last-edge}
+use Rattle.bubble.proofs.Facts.{exit-inside}
 use Rattle.vertices.specs.Vertices.{Member, Numbers, Words, Added, Size}
 use Rattle.vertices.proofs.SetLaws.{empty}
 use Rattle.vertices.proofs.NumberLaws.{numbers-same}
 use Rattle.search.specs.Search.{Visited}
+use Rattle.search.proofs.InsideLaws.{inside-below}
 use Rattle.search.proofs.OccurrenceLaws.{in-take, take-in}
 use Rattle.listing.specs.Listing.{Judged}
 use Rattle.listing.specs.Steps.{AllAdded}
@@ -82,17 +82,7 @@ visited-numbers starts targets order s t k r visited n = numbers-same n (λ v. (
     back : (v : ℕ) → F (Edge starts targets) s t v → In v (take k order) ⊎ (v ≡ t)
     back v f = elim (ℕ-discrete v t) [ yes e ↦ inr e | no other ↦ inl (visited .whole v .1 (f, other)) ]
 
--- each vertex of U is a vertex of the table
-pub inside-below : (starts targets : List ℕ) → WellFormed starts targets → (s t v : ℕ) → s < vertices starts → F (Edge starts targets) s t v → v < vertices starts
-inside-below starts targets ok s t v h f =
-    elim (ℕ-discrete v s) [
-      | yes e ↦ rw e h
-      | no other ↦
-          let (u, inside, before, e) = last-edge f other in
-          edge-below starts targets (ok .targets-below) u v e
-    ]
-
--- so the visited fit the set
+-- the visited fit the set
 pub visited-below : (starts targets order : List ℕ) (s t k : ℕ) → WellFormed starts targets → s < vertices starts → Visited starts targets order s t k → Below 2048 (take k order)
 visited-below starts targets order s t k ok h visited i l =
     let v = getD (take k order) i 0 in

@@ -5,19 +5,14 @@ use mathlib.Core.Logic.{inl, inr}
 use mathlib.Core.Bool.{Bool, false}
 use mathlib.Core.List.{List, [], _∷_, _++_}
 use native.Mathlib.Omega.{arith}
-use lib.ListN.{length, take, drop, length-append}
-use lib.Seq.{length-take-le}
+use lib.ListN.{length, drop, length-append}
 use Rattle.table.specs.Verdict.{Verdict}
-use Rattle.table.specs.Table.{vertices, Edge, WellFormed}
+use Rattle.table.specs.Table.{Edge}
 use Rattle.table.specs.Numbers.{tableDemands}
 use Rattle.table.proofs.VerdictLaws.{goes-on, stops}
 use Rattle.table.proofs.Accepted.{table-met}
 use Rattle.bubble.specs.Superbubble.{Superbubble}
 use Rattle.listing.specs.Listing.{listRoom, pairInside, ListedAt, ListDone, Judged, JudgeDone}
-
--- the first n of a slice of 2,048 are n
-pub front-long : (starts targets list : List ℕ) → WellFormed starts targets → length list ≡ 2048 → length (take (vertices starts) list) ≡ vertices starts
-front-long starts targets list ok long = length-take-le (vertices starts) list (omega (arith, ok .most-vertices))
 
 module _ (starts targets out : List ℕ) where
   -- a table that is refused leaves the slice as it was

@@ -1,16 +1,16 @@
 -- The twelve graphs of document 01: of each the list's specification holds of the pairs that 01 prints, and so of no others (`listed-determined`).
 -- The superbubbles are computed by the decision that `bubble` proves to decide the published definition. Assumes nothing.
-use Prim.Native.Nat.{ℕ, zero, suc, _+_, _*_, _-_, _<_, suc-le-suc, zero-le}
-use mathlib.Core.Path.{_≡_, refl, sym, ap, _∙_}
-use mathlib.Core.Logic.{_↔_, ⊎-elim}
+use Prim.Native.Nat.{ℕ, zero, suc, _+_, _*_, _<_, suc-le-suc, zero-le}
+use mathlib.Core.Path.{_≡_, refl, sym, ap}
+use mathlib.Core.Logic.{_↔_}
 use mathlib.Core.Bool.{Bool, true, false, _&&_}
-use mathlib.Core.List.{List, [], _∷_, List·Memᴰ, List·Memᴰ·head, List·Memᴰ·tail, List·Memᴰ·not-nil, List·Memᴰ·cases-cons}
+use mathlib.Core.List.{List, [], _∷_, List·Memᴰ, List·Memᴰ·head, List·Memᴰ·tail}
 use native.Mathlib.Nat.{not-suc-le-zero, le-of-suc-le-suc}
 use native.Mathlib.Omega.{arith}
 use lib.Dec.{T, ltb, eqb, ltb→lt, lt→ltb, eqb→eq}
-use lib.ListN.{length, getD, take, drop, length-take, length-drop}
-use lib.Seq.{getD-take, getD-drop}
+use lib.ListN.{length, getD}
 use Rattle.table.specs.Table.{vertices, row, In, Edge}
+use Rattle.table.proofs.RowLaws.{edge-below}
 use Rattle.bubble.specs.Superbubble.{Superbubble}
 use Rattle.bubble.proofs.Number.{Below}
 use Rattle.bubble.proofs.Reflect.{Decides, Decides.holds, Decides.fails, proved, decides-if, decides-and, member, decides-member, every, decides-every}
@@ -52,19 +52,17 @@ decides-edge starts targets u v =
     (decides-and (decides-below u (vertices starts)) (decides-member v (row starts targets u)))
 
 -- where each target is below n, so is each end of an edge
-edges-below : (starts targets : List ℕ) → T (every (λ (x : ℕ). ltb x (vertices starts)) targets) → Below (Edge starts targets) (vertices starts)
-edges-below starts targets t u v e =
-    let from = getD starts u 0 in
-    let count = getD starts (u + 1) 0 - from in
-    let place = e .listed .place in
-    let short : place < count = omega (arith, e .listed .inside, length-take count (drop from targets)) in
-    let inside : from + place < length targets = omega (arith, e .listed .inside, length-take count (drop from targets), length-drop from targets) in
-    let stands : getD targets (from + place) 0 ≡ v = sym (getD-take count (drop from targets) place 0 short ∙ getD-drop from targets place 0) ∙ e .listed .stands in
-    (e .vertex, decided-every (every (λ (x : ℕ). ltb x (vertices starts)) targets) (decides-every (λ x. decides-below x (vertices starts)) targets) t v (member-at v targets (from + place) inside stands))
+edges-inside : (starts targets : List ℕ) → T (every (λ (x : ℕ). ltb x (vertices starts)) targets) → Below (Edge starts targets) (vertices starts)
+edges-inside starts targets t u v e = (e .vertex, edge-below starts targets below u v e)
   where
     decided-every : (b : Bool) → Decides ((x : ℕ) → List·Memᴰ x targets → x < vertices starts) b → T b → (x : ℕ) → List·Memᴰ x targets → x < vertices starts
     decided-every true d t = proved d
     decided-every false d t = absurd t
+
+    below : (k : ℕ) → k < length targets → getD targets k 0 < vertices starts
+    below k h =
+        decided-every (every (λ (x : ℕ). ltb x (vertices starts)) targets) (decides-every (λ x. decides-below x (vertices starts)) targets) t (getD targets k 0)
+        (member-at (getD targets k 0) targets k h refl)
 
 -- whether the entrances rise
 abbrev rising-test : List (ℕ × ℕ) → Bool
@@ -122,7 +120,7 @@ computed starts targets ps e rise below =
     }
   where
     all : (s t : ℕ) → List·Memᴰ (s, t) ps ↔ Superbubble (Edge starts targets) s t
-    all s t = rw e at (superbubbles-listed (decides-edge starts targets) (vertices starts) (edges-below starts targets below) s t)
+    all s t = rw e at (superbubbles-listed (decides-edge starts targets) (vertices starts) (edges-inside starts targets below) s t)
 
     flat-length : (l : List (ℕ × ℕ)) → length (flat l) ≡ 2 * length l
     flat-length [] = refl

@@ -7,7 +7,7 @@ use lib.ListN.{length}
 use Rattle.bubble.specs.Superbubble.{Interior, Superbubble}
 use Rattle.bubble.proofs.Number.{Below}
 use Rattle.table.specs.Table.{vertices, Edge, WellFormed, Counted, countSum}
-use Rattle.table.proofs.RowLaws.{edge-below}
+use Rattle.table.proofs.RowLaws.{edges-below}
 use Rattle.rule.specs.Lists.{Graph, CandidateSet, Listing, total, Same}
 use Rattle.rule.specs.Fold.{Rule, NoCycle, Candidate, Entrance, first-takes-all, InTurn, InTurn.once, InTurn.then, budgets-sum}
 use Rattle.rule.specs.Laws.{RuleLaws, CandidateLaws}
@@ -17,9 +17,6 @@ use Rattle.rule.proofs.BestLaws.{first-takes-all-laws}
 use Rattle.rule.proofs.Candidates.{candidate-laws}
 use Rattle.rule.proofs.Demand.{as-once, total-stays, gives-back, none-with-interior}
 use Rattle.rule.proofs.SameTable.{same-lists, total-of-counts}
-
-edges-below : {starts targets : List ℕ} → WellFormed starts targets → Below (Edge starts targets) (vertices starts)
-edges-below {starts} {targets} w u v e = (e .vertex, edge-below starts targets (w .targets-below) u v e)
 
 -- tables of the same size as a third, with the same edges and counts, are the same
 same-size-lists : {starts counts starts₁ targets₁ counts₁ starts₂ targets₂ counts₂ : List ℕ} → SameSize starts counts starts₁ targets₁ counts₁

@@ -14,10 +14,11 @@ use Rattle.bubble.proofs.FromOrder.{Placed, Rising, rising-bubbloid, rising-set
 use Rattle.bubble.proofs.Pigeonhole.{places-below}
 use Rattle.search.specs.Search.{Visited}
 use Rattle.search.specs.Steps.{waits, unvisited, Alone}
+use Rattle.table.proofs.RowLaws.{edges-below}
 use Rattle.search.proofs.SumLaws.{sum-term}
 use Rattle.search.proofs.WaitLaws.{none-waits}
 use Rattle.search.proofs.OccurrenceLaws.{in-take, take-in}
-use Rattle.search.proofs.UnvisitedLaws.{unvisited-parent, edge-below}
+use Rattle.search.proofs.UnvisitedLaws.{unvisited-parent}
 use Rattle.search.proofs.Going.{Going, tail-most, seen}
 
 module _ {starts targets parents left order : List ℕ} {s head tail waiting : ℕ} (g : Going starts targets parents left order s head tail waiting) where
@@ -31,7 +32,7 @@ module _ {starts targets parents left order : List ℕ} {s head tail waiting : �
     -- the children of the visited vertices stand among the places
     children : (i : ℕ) {v : ℕ} → i < head → Edge starts targets (getD order i 0) v → Placed (λ x. getD order x 0) head v
     children i {v} l e =
-        let none : getD left v 0 ≡ 0 = none-waits (getD left v 0) (getD parents v 0) (none-waits-now v (edge-below starts targets (g .well-formed) e)) (seen g i v l e) in
+        let none : getD left v 0 ≡ 0 = none-waits (getD left v 0) (getD parents v 0) (none-waits-now v (edges-below (g .well-formed) _ v e .1)) (seen g i v l e) in
         let (j, m, q) = g .whole (getD order i 0) v none e in
         record { at = j; bound = omega (arith, lone .last); same = q }
 
@@ -145,7 +146,7 @@ module _ {starts targets parents left order : List ℕ} {s head tail waiting : �
         b .acyclicity (back i .0) (rw (← q) at (rw e at (back-walk i (j - suc i))))
 
     back-below : (k : ℕ) → back k .0 < vertices starts
-    back-below k = edge-below starts targets (g .well-formed) (back-edge k)
+    back-below k = edges-below (g .well-formed) _ _ (back-edge k) .1
 
     -- which n vertices cannot carry
     pub end-dry : ⊥

@@ -11,8 +11,9 @@ use Rattle.table.specs.Table.{vertices, row, In, Edge}
 use Rattle.bubble.specs.Superbubble.{Bubbloid}
 use Rattle.search.specs.Search.{occurrences}
 use Rattle.search.specs.Steps.{unvisited, Walkable, Walked, Alone}
+use Rattle.table.proofs.RowLaws.{row-below, edges-below}
 use Rattle.search.proofs.OccurrenceLaws.{occurs-in, take-in, take-same, apart-new}
-use Rattle.search.proofs.UnvisitedLaws.{none-unvisited, visit-more, row-below, edge-below}
+use Rattle.search.proofs.UnvisitedLaws.{none-unvisited, visit-more}
 use Rattle.search.proofs.Going.{Going, tail-most, not-exit}
 
 module _ {starts targets parents left order : List ℕ} {s head tail waiting : ℕ} (g : Going starts targets parents left order s head tail waiting) (ready : head < tail) (forward : In s (row starts targets (getD order head 0)) → ⊥) where
@@ -40,7 +41,7 @@ module _ {starts targets parents left order : List ℕ} {s head tail waiting : �
   pub turn-walkable : Walkable (row starts targets (getD order head 0)) parents left order tail waiting
   turn-walkable = record {
     rises = g .well-formed .rows-rise (getD order head 0) vertex;
-    below = rw (g .each) (row-below starts targets (g .well-formed) (getD order head 0) vertex);
+    below = rw (g .each) (row-below starts targets (g .well-formed .targets-below) (getD order head 0));
     counted = g .each ∙ sym (g .counted .each);
     unpassed = λ v. omega (arith, taken v);
     room = omega (arith, g .each, g .room);
@@ -69,7 +70,7 @@ module _ {starts targets parents left order : List ℕ} {s head tail waiting : �
     below i l =
         elim (decLt i tail) [
           | yes m ↦ rw (w .kept i m) (g .below i m)
-          | no n ↦ edge-below starts targets (g .well-formed) (edge i (omega arith) l)
+          | no n ↦ edges-below (g .well-formed) _ _ (edge i (omega arith) l) .1
         ]
 
     none-left : (i : ℕ) → 0 < i → i < tail′ → getD left′ (getD order′ i 0) 0 ≡ 0

@@ -8,8 +8,9 @@ use lib.Seq.{ext-getD}
 use Rattle.table.specs.Table.{vertices, row, WellFormed}
 use Rattle.search.specs.Search.{occurrences, Parents}
 use Rattle.search.specs.Steps.{unvisited, Tallying, Tallied, Lowered}
+use Rattle.table.proofs.RowLaws.{row-below}
 use Rattle.search.proofs.OccurrenceLaws.{occurrences-most, apart-new}
-use Rattle.search.proofs.UnvisitedLaws.{visit-more, unvisited-least, unvisited-all, row-below}
+use Rattle.search.proofs.UnvisitedLaws.{visit-more, unvisited-least, unvisited-all}
 
 module _ {starts targets left order : List ℕ} (k : ℕ) (well : WellFormed starts targets) (w : Lowered starts targets left order (k + 1)) where
   last-vertex : getD order k 0 < vertices starts
@@ -24,7 +25,7 @@ module _ {starts targets left order : List ℕ} (k : ℕ) (well : WellFormed sta
 
   pub undo-tallying : Tallying (row starts targets (getD order k 0)) left
   undo-tallying = record {
-    below = rw (w .each) (row-below starts targets well (getD order k 0) last-vertex);
+    below = rw (w .each) (row-below starts targets (well .targets-below) (getD order k 0));
     fits = λ v. omega (
       arith,
       taken v,

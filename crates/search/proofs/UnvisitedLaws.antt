@@ -90,17 +90,6 @@ module _ (starts targets : List ℕ) where
       omega (arith, sum-change (vertices starts) (term (take (k + 1) order)) (term (take k order)) u l others)
 
   module _ (well : WellFormed starts targets) where
-    pub row-below : (u : ℕ) → u < vertices starts → Below (vertices starts) (row starts targets u)
-    row-below u l k h =
-        let lies = row-lies starts targets (well .starts-fit) u l in
-        let a = getD starts u 0 in
-        let b = getD starts (u + 1) 0 in
-        let size : k < b - a = omega (arith, h, length-take (b - a) (drop a targets)) in
-        rw (getD-take (b - a) (drop a targets) k 0 size, getD-drop a targets k 0) (well .targets-below (a + k) (omega (arith, lies .ordered, lies .within)))
-
-    pub edge-below : {u v : ℕ} → Edge starts targets u v → v < vertices starts
-    edge-below {u} e = rw (e .listed .stands) at (row-below u (e .vertex) (e .listed .place) (e .listed .inside))
-
     -- the rows of the first k vertices are the targets up to start k
     rows-sum : (v k : ℕ) → k ≤ vertices starts → sum k (λ u. occurrences v (row starts targets u)) ≡ occurrences v (take (getD starts k 0) targets)
     rows-sum v zero h = rw (well .starts-fit .begins)

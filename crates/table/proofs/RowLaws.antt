@@ -7,7 +7,7 @@ use native.Mathlib.Numerals.{add-one}
 use native.Mathlib.Omega.{arith}
 use lib.ListN.{length, getD, drop, length-take, length-drop}
 use lib.Seq.{getD-take, getD-drop}
-use Rattle.table.specs.Table.{vertices, row, RowLies, Edge, Below, StartsFit}
+use Rattle.table.specs.Table.{vertices, row, RowLies, Edge, Below, StartsFit, WellFormed}
 
 -- starts that never fall rise from v over any number of steps
 climb : (starts : List ℕ) (m : ℕ) → StartsFit starts m → (v steps : ℕ) → v + steps < length starts → getD starts v 0 ≤ getD starts (v + steps) 0
@@ -42,3 +42,7 @@ row-below starts targets below u k h =
 -- and an edge leads to a vertex
 pub edge-below : (starts targets : List ℕ) → Below (vertices starts) targets → (u v : ℕ) → Edge starts targets u v → v < vertices starts
 edge-below starts targets below u v e = rw (e .listed .stands) at (row-below starts targets below u (e .listed .place) (e .listed .inside))
+
+-- the edges of a well-formed table join vertices
+pub edges-below : {starts targets : List ℕ} → WellFormed starts targets → (u v : ℕ) → Edge starts targets u v → (u < vertices starts) × (v < vertices starts)
+edges-below {starts} {targets} ok u v e = (e .vertex, edge-below starts targets (ok .targets-below) u v e)

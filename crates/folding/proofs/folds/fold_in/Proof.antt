@@ -3,7 +3,8 @@ use Prim.Native.Nat.{_-_}
 use mathlib.Core.Path.{sym}
 use lib.ListN.{length}
 use lib.Seq.{length-take-le}
-use Rattle.folding.proofs.DoneLaws.{front-long, longer-counts}
+use Rattle.table.proofs.FrontLaws.{front-long}
+use Rattle.folding.proofs.DoneLaws.{longer-counts}
 use borrow.Author.Needs.{needs}
 use Rattle.folding.proofs.folds.fold_in.Statement.{statement}
 use Rattle.folding.proofs.folds.fold_in.Tie as tie

@@ -1,6 +1,6 @@
 -- `listing::lists::list_in` meets its contract: the first n of each slice are lent. Assumes nothing.
 use mathlib.Core.Path.{sym}
-use Rattle.listing.proofs.DoneLaws.{front-long}
+use Rattle.table.proofs.FrontLaws.{front-long}
 use borrow.Author.Needs.{needs}
 use Rattle.listing.proofs.lists.list_in.Statement.{statement}
 use Rattle.listing.proofs.lists.list_in.Tie as tie
