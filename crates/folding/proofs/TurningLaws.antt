@@ -40,7 +40,7 @@ module _ (starts targets counts parents left order exits best next out : List â„
         next-long = turning .next-long;
         out-long = turning .out-long;
         passed = omega arith;
-        turns = turns
+        turns = turns;
       }
 
   -- s is the entrance of no candidate
