@@ -10,7 +10,7 @@ use crate::table::Table;
 
 /// The operations that are compared now. Those that `batch` does not know yet stand in OPERATIONS
 /// alone: their cases are made and their answers are held to the definition, but nobody is asked.
-pub const COMPARED: &[&str] = &["show", "check", "write", "read", "list", "judge"];
+pub const COMPARED: &[&str] = &["show", "check", "write", "read", "list", "judge", "fold"];
 
 /// The longest stream that a question has: the most that `show` reads.
 pub const LONGEST_STREAM: usize = image::LARGEST + 1;

@@ -12,7 +12,7 @@ use std::io;
 use std::path::Path;
 
 /// The programs that are compared now, beside `batch`.
-pub const COMPARED: &[&str] = &["show", "list", "judge"];
+pub const COMPARED: &[&str] = &["show", "list", "judge", "fold"];
 
 /// Words with which a program can be started first, with an empty input, and what it must print then.
 pub fn to_start(program: &str) -> (&'static [&'static str], Due) {

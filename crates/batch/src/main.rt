@@ -4,6 +4,7 @@
 mod bodies;
 mod bytes;
 mod checks;
+mod folds;
 mod images;
 mod lists;
 mod step;
@@ -11,6 +12,7 @@ mod step;
 ghost use Prim.Native.Nat.{_≤_, _<_};
 use bytes::word;
 use checks::check_case;
+use folds::fold_case;
 use images::read_case;
 use images::show_case;
 use images::write_case;
@@ -50,6 +52,7 @@ fn answer(
         b'r' => read_case(out, at, body, starts, targets, counts),
         b'l' => list_case(out, at, body, starts, targets, list),
         b'j' => judge_case(out, at, body, starts, targets),
+        b'f' => fold_case(out, at, body, starts, targets, counts),
         _ => bad_case(out, at),
     }
 }
