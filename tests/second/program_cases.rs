@@ -7,7 +7,7 @@ use crate::graphs::{self, lettered, TWELVE};
 use crate::image;
 use crate::operations::LONGEST_STREAM;
 use crate::random::Random;
-use crate::runs::{Due, Files, ProgramRun};
+use crate::runs::{under_way, Due, Files, ProgramRun};
 use crate::shapes;
 
 impl Cases {
@@ -150,6 +150,13 @@ impl Cases {
         self.add_run("J, IN and OUT are one", same);
         let same = ProgramRun::fold(1, "in.sbt", "in.sbt", file("in.sbt", of_letter("E")));
         self.add_run("E, IN and OUT are one", same);
+        let stopped = |letter, output| {
+            [file("in.sbt", of_letter(letter)), file(&under_way(output), vec![9; 200])].concat()
+        };
+        let again = ProgramRun::fold(1, "in.sbt", "out.sbt", stopped("J", "out.sbt"));
+        self.add_run("J, after a stop", again);
+        let again = ProgramRun::fold(1, "in.sbt", "in.sbt", stopped("K", "in.sbt"));
+        self.add_run("K, IN and OUT are one, after a stop", again);
         let folders =
             [file("a/", vec![]), file("a/in", of_letter("J")), file("b/", vec![])].concat();
         self.add_run("J in another folder", ProgramRun::fold(1, "a/in", "b/out", folders));
@@ -185,6 +192,10 @@ impl Cases {
         ] {
             self.add_run("wrong words", ProgramRun::fold_refusing(words, files.clone()));
         }
+        let name = under_way("out.sbt");
+        let words = ["1", &name, "out.sbt"];
+        let files = file(&name, of_letter("J"));
+        self.add_run("IN is what a stop left", ProgramRun::fold_refusing(&words, files));
         let files = [file("folder/", vec![]), file("in.sbt", of_letter("J"))].concat();
         let words = ["1", "in.sbt", "folder"];
         self.add_run("OUT is a folder", ProgramRun::fold_refusing(&words, files));

@@ -88,13 +88,13 @@ impl ProgramRun {
         ProgramRun::of_stream("judge", &[s, t], stream, due)
     }
 
-    /// `fold BUDGET IN OUT` with these files before.
+    /// `fold BUDGET IN OUT` with these files before. What an earlier stop left is gone after a fold.
     pub fn fold(budget: u32, input: &str, output: &str, before: Files) -> ProgramRun {
         let (_, stream) = before.iter().find(|(name, _)| name == input).unwrap();
         let (text, image) = folded_file(stream, budget);
         let mut after = before.clone();
         if let Some(image) = image {
-            after.retain(|(name, _)| name != output);
+            after.retain(|(name, _)| name != output && *name != under_way(output));
             after.push((output.to_string(), image));
         }
         let words = [&budget.to_string(), input, output].map(str::to_string).to_vec();
@@ -176,6 +176,11 @@ impl Due {
             Due::Usage | Due::Message => Some(format!("it says {}", quoted(said.as_bytes()))),
         }
     }
+}
+
+/// The name under which `fold` writes before it is done.
+pub fn under_way(output: &str) -> String {
+    format!("{output}.fold-new")
 }
 
 /// All files below a folder, with their names from there on.
