@@ -1,0 +1,154 @@
+-- Each demand behind a number is decided on any content, so that every table, image and room is given a number. Assumes nothing.
+use Prim.Native.Nat.{ℕ, zero, suc, _+_, _-_, _*_, _≤_, _<_}
+use mathlib.Core.Path.{_≡_, refl, ap, ap₂}
+use mathlib.Core.Logic.{inl, inr}
+use mathlib.Core.List.{List, [], _∷_, _++_}
+use native.Mathlib.Omega.{arith}
+use native.Mathlib.Decide.{ℕ-discrete, decLe, decLt, map-dec}
+use lib.ListN.{length, getD, take, drop}
+use Rattle.table.specs.Verdict.{Demand, Verdict}
+use Rattle.table.specs.Table.{vertices, row, Edge, Rises, Below, StartsFit, RowsRise, WellFormed, countSum}
+use Rattle.table.specs.Numbers.{tableDemands, countDemands}
+use Rattle.table.proofs.RowLaws.{edges-below}
+use Rattle.table.proofs.VerdictLaws.{AllMet}
+use Rattle.image.specs.Image.{mark, imageLength, versionOf, verticesOf, edgesOf, startsOf, targetsOf, countsOf}
+use Rattle.image.specs.Contracts.{headerDemands, bodyDemands}
+use Rattle.bubble.proofs.Reflect.{decided, decides-test}
+use Rattle.bubble.proofs.Closure.{decides-closure}
+use Rattle.cycle.specs.Cycle.{Anywhere, Cyclic}
+use Rattle.bubble.specs.Superbubble.{Walk, Walk.edge, Walk.more}
+use Rattle.candidates.proofs.RuleOutLaws.{in-decided}
+
+-- each demand is decided where those before it are met
+abbrev pub DecidedInTurn : List Demand → Type 0
+DecidedInTurn [] = Unit {0}
+DecidedInTurn (d ∷ rest) = Dec (d .met) × (d .met → DecidedInTurn rest)
+
+-- such demands give a number
+pub gives-number : (demands : List Demand) → DecidedInTurn demands → (r : ℕ) × Verdict demands r
+gives-number [] d = (0, refl)
+gives-number (demand ∷ rest) d =
+    elim (d .0) [
+      | yes met ↦ let (r, v) = gives-number rest (d .1 met) in (r, inr (met, v))
+      | no unmet ↦ (demand .number, inl (unmet, refl))
+    ]
+
+-- demands and further ones
+pub decided-then : (first rest : List Demand) → DecidedInTurn first → (AllMet first → DecidedInTurn rest) → DecidedInTurn (first ++ rest)
+decided-then [] rest d later = later tt
+decided-then (demand ∷ first) rest d later = (d .0, λ met. decided-then first rest (d .1 met) (λ all. later (met, all)))
+
+pub both : {P Q : Type 0} → Dec P → Dec Q → Dec (P × Q)
+both (yes p) (yes q) = yes (p, q)
+both (yes p) (no n) = no (λ h. n (h .1))
+both (no n) d = no (λ h. n (h .0))
+
+not-decided : {P : Type 0} → Dec P → Dec (P → ⊥)
+not-decided (yes p) = no (λ n. n p)
+not-decided (no n) = yes n
+
+-- what is decided of each number is decided of all below n,
+every-below : {P : ℕ → Type 0} → ((k : ℕ) → Dec (P k)) → (n : ℕ) → Dec ((k : ℕ) → k < n → P k)
+every-below d zero = yes (λ k h. absurd (let no : ⊥ = omega arith in no))
+every-below {P} d (suc n) =
+    elim (both (every-below d n) (d n)) [
+      | yes h ↦ yes (λ k l. elim (ℕ-discrete k n) [ yes q ↦ rw q (h .1) | no other ↦ h .0 k (omega arith) ])
+      | no h ↦ no (λ all. h (λ k l. all k (omega arith), all n (omega arith)))
+    ]
+
+-- and whether there is one below n
+some-below : {P : ℕ → Type 0} → ((k : ℕ) → Dec (P k)) → (n : ℕ) → Dec ((k : ℕ) × (k < n) × P k)
+some-below d zero = no (λ h. omega (arith, h .1))
+some-below {P} d (suc n) =
+    elim (d n) [
+      | yes p ↦ yes (n, omega arith, p)
+      | no here ↦
+          elim (some-below d n) [
+            | yes h ↦ yes (h .0, omega (arith, h .1), h .2)
+            | no below ↦ no (λ h. elim (ℕ-discrete (h .0) n) [ yes q ↦ here (rw q at (h .2)) | no other ↦ below (h .0, omega (arith, h .1), h .2) ])
+          ]
+    ]
+
+below-decided : (n : ℕ) (xs : List ℕ) → Dec (Below n xs)
+below-decided n xs = every-below (λ k. decLt (getD xs k 0) n) (length xs)
+
+rises-decided : (xs : List ℕ) → Dec (Rises xs)
+rises-decided xs =
+    map-dec (λ h k l. h k (omega arith)) (λ h k l. h k (omega arith)) (every-below (λ k. decLt (getD xs k 0) (getD xs (k + 1) 0)) (length xs - 1))
+
+starts-decided : (starts : List ℕ) (m : ℕ) → Dec (StartsFit starts m)
+starts-decided starts m =
+    let climbs = every-below (λ v. decLe (getD starts v 0) (getD starts (v + 1) 0)) (length starts - 1) in
+    map-dec (λ h. record { begins = h .0; climbs = λ v l. h .1 .0 v (omega arith); ends = h .1 .1 }) (λ h. (h .begins, (λ v l. h .climbs v (omega arith), h .ends)))
+    (both (ℕ-discrete (getD starts 0 0) 0) (both climbs (ℕ-discrete (getD starts (vertices starts) 0) m)))
+
+rows-decided : (starts targets : List ℕ) → Dec (RowsRise starts targets)
+rows-decided starts targets = every-below (λ v. rises-decided (row starts targets v)) (vertices starts)
+
+same-decided : (xs ys : List ℕ) → Dec (xs ≡ ys)
+same-decided [] [] = yes refl
+same-decided [] (y ∷ ys) = no (λ q. omega (arith, ap length q))
+same-decided (x ∷ xs) [] = no (λ q. omega (arith, ap length q))
+same-decided (x ∷ xs) (y ∷ ys) =
+    map-dec (λ h. ap₂ {C = List ℕ} (λ a b. a ∷ b) (h .0) (h .1)) (λ q. (ap (λ (l : List ℕ). getD l 0 0) q, ap (drop 1) q)) (both (ℕ-discrete x y) (same-decided xs ys))
+
+edge-decided : (starts targets : List ℕ) (u v : ℕ) → Dec (Edge starts targets u v)
+edge-decided starts targets u v =
+    map-dec (λ h. record { vertex = h .0; listed = h .1 }) (λ e. (e .vertex, e .listed)) (both (decLt u (vertices starts)) (in-decided v (row starts targets u)))
+
+walk-below : {starts targets : List ℕ} {u v : ℕ} → Walk (Edge starts targets) Anywhere u v → u < vertices starts
+walk-below (edge a e b) = e .vertex
+walk-below (more w e b) = walk-below w
+
+-- whether a well-formed table has a directed cycle
+cycle-decided : (starts targets : List ℕ) → WellFormed starts targets → Dec (Cyclic (Edge starts targets))
+cycle-decided starts targets ok =
+    let back : (v : ℕ) → Dec (Walk (Edge starts targets) Anywhere v v)
+    = λ v. decided (decides-closure (λ x y. decides-test (edge-decided starts targets x y)) (vertices starts) (λ x y e. edges-below ok x y e .1) v v) in
+    map-dec (λ h. record { vertex = h .0; back = h .2 }) (λ c. (c .vertex, walk-below (c .back), c .back)) (some-below back (vertices starts))
+
+-- 1 to 5,
+pub table-decided : (starts targets : List ℕ) → DecidedInTurn (tableDemands starts targets)
+table-decided starts targets = (
+  both (decLt 0 (length starts)) (decLe (length starts) 2049),
+  λ _. (
+    decLe (length targets) 8192,
+    λ _. (starts-decided starts (length targets), λ _. (below-decided (vertices starts) targets, λ _. (rows-decided starts targets, λ _. tt))),
+  ),
+)
+
+-- 6 and 7,
+pub counts-decided : (starts counts : List ℕ) → DecidedInTurn (countDemands starts counts)
+counts-decided starts counts = (ℕ-discrete (length counts) (vertices starts), λ _. (decLe (countSum counts) 1099511627775, λ _. tt))
+
+-- 10, 11, 1, 2, 12,
+pub header-decided : (image : List ℕ) → DecidedInTurn (headerDemands image)
+header-decided image = (
+  both (decLe 13 (length image)) (same-decided (take 3 image) mark),
+  λ _. (
+    ℕ-discrete (versionOf image) 1,
+    λ _. (
+      decLe (verticesOf image) 2048,
+      λ _. (decLe (edgesOf image) 8192, λ _. (ℕ-discrete (length image) (imageLength (verticesOf image) (edgesOf image)), λ _. tt)),
+    ),
+  ),
+)
+
+-- 3, 4, 5, 7 of the table in an image,
+pub body-decided : (image : List ℕ) → DecidedInTurn (bodyDemands image)
+body-decided image = (
+  starts-decided (startsOf image) (length (targetsOf image)),
+  λ _. (
+    below-decided (vertices (startsOf image)) (targetsOf image),
+    λ _. (rows-decided (startsOf image) (targetsOf image), λ _. (decLe (countSum (countsOf image)) 1099511627775, λ _. tt)),
+  ),
+)
+
+-- 8, of the three slices that a table is written to,
+pub room-decided : (a b c x y z : ℕ) → Dec ((a ≤ x) × (b ≤ y) × (c ≤ z))
+room-decided a b c x y z =
+    map-dec (λ h. (h .0, h .1 .0, h .1 .1)) (λ h. (h .0, (h .1, h .2))) (both (decLe a x) (both (decLe b y) (decLe c z)))
+
+-- and 9
+pub acyclic-decided : (starts targets : List ℕ) → WellFormed starts targets → Dec (Cyclic (Edge starts targets) → ⊥)
+acyclic-decided starts targets ok = not-decided (cycle-decided starts targets ok)

@@ -1,0 +1,2 @@
+-- The words of the promises. Assumes nothing.
+pub mod Calls
