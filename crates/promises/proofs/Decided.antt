@@ -1,5 +1,5 @@
 -- Each demand behind a number is decided on any content, so that every table, image and room is given a number. Assumes nothing.
-use Prim.Native.Nat.{ℕ, zero, suc, _+_, _-_, _*_, _≤_, _<_}
+use Prim.Native.Nat.{ℕ, zero, suc, _+_, _-_, _≤_, _<_}
 use mathlib.Core.Path.{_≡_, refl, ap, ap₂}
 use mathlib.Core.Logic.{inl, inr}
 use mathlib.Core.List.{List, [], _∷_, _++_}
@@ -92,7 +92,7 @@ same-decided (x ∷ xs) [] = no (λ q. omega (arith, ap length q))
 same-decided (x ∷ xs) (y ∷ ys) =
     map-dec (λ h. ap₂ {C = List ℕ} (λ a b. a ∷ b) (h .0) (h .1)) (λ q. (ap (λ (l : List ℕ). getD l 0 0) q, ap (drop 1) q)) (both (ℕ-discrete x y) (same-decided xs ys))
 
-edge-decided : (starts targets : List ℕ) (u v : ℕ) → Dec (Edge starts targets u v)
+pub edge-decided : (starts targets : List ℕ) (u v : ℕ) → Dec (Edge starts targets u v)
 edge-decided starts targets u v =
     map-dec (λ h. record { vertex = h .0; listed = h .1 }) (λ e. (e .vertex, e .listed)) (both (decLt u (vertices starts)) (in-decided v (row starts targets u)))
 

@@ -1,21 +1,18 @@
 -- Demand 1: a table or image of any content gets an answer; bad ones are refused by number, on the tool's own checking; and a refusal changes no buffer. Assumes nothing.
-use Prim.Native.Nat.{ℕ, _+_, _*_, _≤_}
-use mathlib.Core.Path.{_≡_, refl, sym, _∙_}
-use mathlib.Core.Logic.{inr}
+use Prim.Native.Nat.{ℕ, _+_, _*_}
+use mathlib.Core.Path.{_≡_, sym}
 use mathlib.Core.Bool.{Bool, false}
 use mathlib.Core.List.{List, [], _∷_, _++_}
-use native.Mathlib.Omega.{arith}
 use native.Mathlib.Decide.{decLe, decLt}
 use lib.ListN.{length}
 use Rattle.table.specs.Verdict.{Verdict}
 use Rattle.table.specs.Table.{vertices, Below, WellFormed, Counted}
 use Rattle.table.specs.Numbers.{tableDemands, countDemands, countedDemands}
-use Rattle.table.proofs.VerdictLaws.{AllMet, first-met, goes-on, verdict-unique}
+use Rattle.table.proofs.VerdictLaws.{AllMet, first-met}
 use Rattle.table.proofs.Accepted.{well-formed, counted, met-counted}
 use Rattle.image.specs.Image.{imageLength, imageOf, verticesOf, edgesOf, startsOf, targetsOf, countsOf}
 use Rattle.image.specs.Contracts.{headerDemands, bodyDemands, readRoom, writeRoom, Read, Written}
 use Rattle.image.proofs.ReadLaws.{read-met}
-use Rattle.image.proofs.TableBack.{image-met}
 use Rattle.image.proofs.ImageBack.{table-counted, image-back}
 use Rattle.listing.specs.Listing.{listRoom, pairInside, ListDone, JudgeDone}
 use Rattle.folding.specs.Folding.{foldRoom, noCycle, FoldDone}

@@ -11,12 +11,11 @@ use lib.ListN.{length, getD, take, drop}
 use lib.Seq.{take-at}
 use Rattle.table.specs.Table.{vertices, Edge, WellFormed}
 use Rattle.table.specs.Numbers.{tableDemands}
-use Rattle.table.proofs.VerdictLaws.{AllMet, goes-on, verdict-unique}
+use Rattle.table.proofs.VerdictLaws.{goes-on, verdict-unique}
 use Rattle.table.proofs.Accepted.{table-met, well-formed-accepted}
 use Rattle.table.proofs.RowLaws.{edges-below}
-use Rattle.bubble.specs.Superbubble.{F, Superbubble}
+use Rattle.bubble.specs.Superbubble.{Superbubble}
 use Rattle.bubble.proofs.Number.{entrance-below}
-use Rattle.vertices.specs.Vertices.{Numbers}
 use Rattle.listing.specs.Listing.{Stands, Listed, listRoom, pairInside, ListDone, Judged, JudgeDone}
 use Rattle.rule.specs.Fold.{Candidate, first-takes-all}
 use Rattle.rule.specs.Tables.{TableFolded}

@@ -1,19 +1,20 @@
 -- Demand 3, of all that the contract of fold allows: take a well-formed table without a directed cycle, room for each result, and one or more budgets.
 -- The theorems hold for every list of budgets, so for those whose sum is within a single budget's range. Assumes nothing.
-use Prim.Native.Nat.{ℕ, _+_, _≤_}
-use mathlib.Core.Path.{_≡_, sym, ap, _∙_}
+use Prim.Native.Nat.{ℕ, _≤_}
+use mathlib.Core.Path.{_≡_}
 use mathlib.Core.List.{List}
-use native.Mathlib.Omega.{arith}
-use lib.ListN.{length, take, drop}
-use lib.Seq.{take-at}
-use Rattle.table.specs.Table.{vertices, Edge, countSum}
+use lib.ListN.{length}
+use Rattle.table.specs.Table.{Edge, countSum}
+use Rattle.table.proofs.RowLaws.{edges-below}
 use Rattle.bubble.specs.Superbubble.{Interior, Superbubble}
 use Rattle.rule.specs.Lists.{Listing}
 use Rattle.rule.specs.Fold.{Candidate, Entrance, first-takes-all, budgets-sum}
-use Rattle.rule.specs.Tables.{TableFolded, TablesInTurn, TablesInTurn.once, TablesInTurn.then}
+use Rattle.rule.specs.Tables.{TablesInTurn, TablesInTurn.once, TablesInTurn.then}
+use Rattle.rule.proofs.CandidatesListed.{candidates-listed}
 use Rattle.rule.proofs.TableDemand.{in-turn-as-once, count-sum-stays, no-interior-left, further-fold-gives-back}
 use Rattle.folding.proofs.Demand.{left-accepted}
 use Rattle.folding.proofs.DoneLaws.{acyclic-folds}
+use Rattle.promises.proofs.Decided.{edge-decided}
 use Rattle.promises.proofs.Demand2.{fold-by-rule}
 use Rattle.promises.specs.Calls.{Foldable, FoldCall, CallsInTurn, CallsInTurn.once, CallsInTurn.then}
 
@@ -47,6 +48,10 @@ module _ {starts targets counts budgets starts′ targets′ counts′ : List �
   -- The total of the counts never moves.
   pub total-never-moves : countSum counts′ ≡ countSum counts
   total-never-moves = count-sum-stays (table .counted) (acyclic-folds starts targets (table .acyclic)) (tables-in-turn table calls)
+
+  -- The outermost superbubbles with an interior in the first table can be listed, so they have a number.
+  pub first-candidates : (candidates : List ℕ) × Listing (Entrance Candidate (Edge starts targets)) candidates
+  first-candidates = candidates-listed (edge-decided starts targets) (edges-below (table .counted .well-formed))
 
   -- Once the budgets reach the number of outermost superbubbles with an interior in the first table,
   module _ {candidates : List ℕ} (listed : Listing (Entrance Candidate (Edge starts targets)) candidates) (reached : length candidates ≤ budgets-sum budgets) where

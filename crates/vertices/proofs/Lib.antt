@@ -1,3 +1,4 @@
 pub mod BitLaws
 pub mod NumberLaws
 pub mod SetLaws
+pub mod Determined
