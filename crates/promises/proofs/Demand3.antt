@@ -38,6 +38,10 @@ calls-leave : {starts targets counts budgets starts′ targets′ counts′ : Li
 calls-leave table (once call) = call-leaves table call
 calls-leave table (then call calls) = calls-leave (call-leaves table call) calls
 
+-- The outermost superbubbles with an interior in the first table can be listed, so that they have a number.
+pub first-candidates : {starts targets counts : List ℕ} → Foldable starts targets counts → (candidates : List ℕ) × Listing (Entrance Candidate (Edge starts targets)) candidates
+first-candidates {starts} {targets} table = candidates-listed (edge-decided starts targets) (edges-below (table .counted .well-formed))
+
 module _ {starts targets counts budgets starts′ targets′ counts′ : List ℕ} (table : Foldable starts targets counts)
     (calls : CallsInTurn starts targets counts budgets starts′ targets′ counts′) where
   -- Folding by them in turn, each on the table the last one left, ends in the same table and counts as one fold with the sum.
@@ -48,10 +52,6 @@ module _ {starts targets counts budgets starts′ targets′ counts′ : List �
   -- The total of the counts never moves.
   pub total-never-moves : countSum counts′ ≡ countSum counts
   total-never-moves = count-sum-stays (table .counted) (acyclic-folds starts targets (table .acyclic)) (tables-in-turn table calls)
-
-  -- The outermost superbubbles with an interior in the first table can be listed, so they have a number.
-  pub first-candidates : (candidates : List ℕ) × Listing (Entrance Candidate (Edge starts targets)) candidates
-  first-candidates = candidates-listed (edge-decided starts targets) (edges-below (table .counted .well-formed))
 
   -- Once the budgets reach the number of outermost superbubbles with an interior in the first table,
   module _ {candidates : List ℕ} (listed : Listing (Entrance Candidate (Edge starts targets)) candidates) (reached : length candidates ≤ budgets-sum budgets) where
