@@ -1,14 +1,101 @@
-// What a body lends to a call: so much of each slice as the lengths at its front say, and the table behind them, with its counts or without.
+// What a body asks for: the table that stands in it, with its counts or without, laid into the slices lent; and the lengths of the slices that a call is to fill.
 ghost use Prim.Native.Nat.{_≤_};
 ghost use mathlib.Core.Path.{_≡_};
 ghost use lib.ListN.{length};
-ghost use Rattle.io.specs.Counts.{Counts};
+use crate::bytes::number;
 use crate::bytes::read_longs;
 use crate::bytes::read_words;
-use crate::bytes::word;
 
-// Where they do not fit, every length is 0.
+// Where a table lies: its starts before the place `starts`, its targets from there to the place `rows`, and so many counts. Where it does not fit, each is 0.
 pub struct Lent {
+    pub fit: bool,
+    pub starts: usize,
+    pub rows: usize,
+    pub counts: usize,
+}
+
+fn unfit() -> Lent
+    ensures { λ r. ⌜ (r .starts ≡ 0) × (r .rows ≡ 0) × (r .counts ≡ 0) ⌝ }
+{
+    Lent {
+        fit: false,
+        starts: 0,
+        rows: 0,
+        counts: 0,
+    }
+}
+
+// The two lengths at a place of a body, where they are no more than `most` together.
+fn row_lengths(body: &[u8], at: usize, most: usize) -> Lent
+    requires { ⌜ at ≤ 16 ⌝ }
+    ensures { λ r. ⌜ (r .starts ≤ r .rows) × (r .rows ≤ most) × (r .counts ≡ 0) ⌝ }
+{
+    let a = number(body, at) as usize;
+    let b = number(body, at + 4) as usize;
+    if a > most {
+        return unfit();
+    }
+    if b > most - a {
+        return unfit();
+    }
+    Lent {
+        fit: true,
+        starts: a,
+        rows: a + b,
+        counts: 0,
+    }
+}
+
+// Lays the starts and targets that stand in a body behind their two lengths into the slice, where the body ends with them.
+pub fn lay_rows(body: &[u8], at: usize, words: &mut [u32]) -> Lent
+    requires { ⌜ at ≤ 16 ⌝ }
+    ensures { λ r. ⌜ (r .starts ≤ r .rows) × (r .rows ≤ length (now (words .exit))) ⌝ }
+{
+    let lent = row_lengths(body, at, words.len());
+    if !lent.fit {
+        return unfit();
+    }
+    if body.len() != at + 8 + 4 * lent.rows {
+        return unfit();
+    }
+    read_words(body, at + 8, lent.rows, words);
+    lent
+}
+
+// The same with a third length, and the counts behind the targets.
+pub fn lay(body: &[u8], at: usize, words: &mut [u32], counts: &mut [u64]) -> Lent
+    requires { ⌜ at ≤ 16 ⌝ }
+    ensures { λ r.
+        ⌜
+        (r .starts ≤ r .rows)
+        × (r .rows ≤ length (now (words .exit)))
+        × (r .counts ≤ length (now (counts .exit)))
+        ⌝ }
+{
+    let lent = row_lengths(body, at, words.len());
+    let c = number(body, at + 8) as usize;
+    let counts_at = at + 12 + 4 * lent.rows;
+    if !lent.fit {
+        return unfit();
+    }
+    if c > counts.len() {
+        return unfit();
+    }
+    if body.len() != counts_at + 8 * c {
+        return unfit();
+    }
+    read_words(body, at + 12, lent.rows, words);
+    read_longs(body, counts_at, c, counts);
+    Lent {
+        fit: true,
+        starts: lent.starts,
+        rows: lent.rows,
+        counts: c,
+    }
+}
+
+// The lengths of the three slices that a call is to fill, and where the rest of the body begins. Where they do not fit, each is 0.
+pub struct Room {
     pub fit: bool,
     pub rest: usize,
     pub starts: usize,
@@ -16,10 +103,10 @@ pub struct Lent {
     pub counts: usize,
 }
 
-fn unfit() -> Lent
+fn no_rooms() -> Room
     ensures { λ r. ⌜ (r .rest ≡ 0) × (r .starts ≡ 0) × (r .targets ≡ 0) × (r .counts ≡ 0) ⌝ }
 {
-    Lent {
+    Room {
         fit: false,
         rest: 0,
         starts: 0,
@@ -28,89 +115,29 @@ fn unfit() -> Lent
     }
 }
 
-// Two lengths, none above that of its slice, and where the rest of the body begins.
-pub fn row_lengths(body: &[u8], starts: &[u32], targets: &[u32]) -> Lent
+// The three lengths at a place of a body, none above the most that is lent.
+pub fn rooms(body: &[u8], at: usize) -> Room
+    requires { ⌜ at ≤ 16 ⌝ }
     ensures { λ r.
         ⌜
         (r .rest ≤ length (now (body .entry)))
-        × (Counts (r .starts) (now (starts .entry)))
-        × (Counts (r .targets) (now (targets .entry)))
-        × (r .counts ≡ 0)
+        × (r .starts ≤ 4096)
+        × (r .targets ≤ 16384)
+        × (r .counts ≤ 4096)
         ⌝ }
 {
-    if body.len() < 8 {
-        return unfit();
+    let starts = number(body, at) as usize;
+    let targets = number(body, at + 4) as usize;
+    let counts = number(body, at + 8) as usize;
+    let rest = at + 12;
+    if body.len() < rest || starts > 4096 || targets > 16_384 || counts > 4096 {
+        return no_rooms();
     }
-    let a = word(body, 0) as usize;
-    let b = word(body, 4) as usize;
-    if a > starts.len() {
-        return unfit();
-    }
-    if b > targets.len() {
-        return unfit();
-    }
-    Lent {
+    Room {
         fit: true,
-        rest: 8,
-        starts: a,
-        targets: b,
-        counts: 0,
+        rest,
+        starts,
+        targets,
+        counts,
     }
-}
-
-// The same with a third length, that of the counts.
-pub fn lengths(body: &[u8], starts: &[u32], targets: &[u32], counts: &[u64]) -> Lent
-    ensures { λ r.
-        ⌜
-        (r .rest ≤ length (now (body .entry)))
-        × (Counts (r .starts) (now (starts .entry)))
-        × (Counts (r .targets) (now (targets .entry)))
-        × (Counts (r .counts) (now (counts .entry)))
-        ⌝ }
-{
-    let rows = row_lengths(body, starts, targets);
-    if !rows.fit {
-        return unfit();
-    }
-    if body.len() < 12 {
-        return unfit();
-    }
-    let c = word(body, 8) as usize;
-    if c > counts.len() {
-        return unfit();
-    }
-    Lent {
-        fit: true,
-        rest: 12,
-        starts: rows.starts,
-        targets: rows.targets,
-        counts: c,
-    }
-}
-
-// Fills the slices from a body, where the body has as many bytes as that takes.
-pub fn lay(body: &[u8], starts: &mut [u32], targets: &mut [u32], counts: &mut [u64]) -> bool {
-    let targets_at = 4 * starts.len();
-    let counts_at = targets_at + 4 * targets.len();
-    if body.len() < counts_at {
-        return false;
-    }
-    if body.len() != counts_at + 8 * counts.len() {
-        return false;
-    }
-    read_words(body, 0, starts);
-    read_words(body, targets_at, targets);
-    read_longs(body, counts_at, counts);
-    true
-}
-
-// The same without counts: the body has exactly as many bytes as starts and targets take.
-pub fn lay_rows(body: &[u8], starts: &mut [u32], targets: &mut [u32]) -> bool {
-    let targets_at = 4 * starts.len();
-    if body.len() != targets_at + 4 * targets.len() {
-        return false;
-    }
-    read_words(body, 0, starts);
-    read_words(body, targets_at, targets);
-    true
 }

@@ -1,33 +1,45 @@
 // The operation `t`: the check of a table.
 ghost use Prim.Native.Nat.{_≤_};
+ghost use lib.ListN.{length};
+use crate::bodies::Lent;
 use crate::bodies::lay;
-use crate::bodies::lengths;
+use crate::puts::put_named;
 use crate::step::Step;
 use crate::step::answered;
 use crate::step::bad_case;
 
-// Checks a table without its counts and with them, and puts both numbers.
-fn check_lent(
-    out: &mut [u8; 4096],
-    at: usize,
-    body: &[u8],
-    starts: &mut [u32],
-    targets: &mut [u32],
-    counts: &mut [u64],
-) -> Step
-    requires { ⌜ at ≤ 4096 ⌝ }
-    ensures { λ r. ⌜ r .place ≤ 4096 ⌝ }
+// The number of a table without its counts, and with them.
+struct Checked {
+    without: u32,
+    counted: u32,
+}
+
+fn check_both(lent: Lent, words: &[u32], counts: &[u64]) -> Checked
+    requires { ⌜
+        (lent .starts ≤ lent .rows)
+        × (lent .rows ≤ length (now words))
+        × (lent .counts ≤ length (now counts))
+        ⌝ }
 {
-    if !lay(body, starts, targets, counts) {
-        return bad_case(out, at);
+    let a = lent.starts;
+    let e = lent.rows;
+    let c = lent.counts;
+    let starts = &words[0..a];
+    let targets = &words[a..e];
+    Checked {
+        without: table::check(starts, targets),
+        counted: table::check_counted(starts, targets, &counts[0..c]),
     }
-    let without = table::check(starts, targets);
-    let counted = table::check_counted(starts, targets, counts);
-    let mut place = text::word(out, at, b"check");
-    place = text::next_number(out, place, without as u64);
-    place = text::word(out, place, b" counted");
-    place = text::next_number(out, place, counted as u64);
-    answered(text::byte(out, place, b'\n'))
+}
+
+// Puts both numbers.
+fn put_checked(out: &mut [u8; 4096], at: usize, checked: Checked) -> usize
+    requires { ⌜ at ≤ 4096 ⌝ }
+    ensures { λ r. ⌜ r ≤ 4096 ⌝ }
+{
+    let mut place = put_named(out, at, b"check", checked.without);
+    place = put_named(out, place, b" counted", checked.counted);
+    text::byte(out, place, b'\n')
 }
 
 // The operation `t`: three lengths, then starts, targets and counts.
@@ -35,27 +47,16 @@ pub fn check_case(
     out: &mut [u8; 4096],
     at: usize,
     body: &[u8],
-    starts: &mut [u32],
-    targets: &mut [u32],
+    words: &mut [u32],
     counts: &mut [u64],
 ) -> Step
     requires { ⌜ at ≤ 4096 ⌝ }
     ensures { λ r. ⌜ r .place ≤ 4096 ⌝ }
 {
-    let lent = lengths(body, starts, targets, counts);
+    let lent = lay(body, 0, words, counts);
     if !lent.fit {
         return bad_case(out, at);
     }
-    let rest = lent.rest;
-    let a = lent.starts;
-    let b = lent.targets;
-    let c = lent.counts;
-    check_lent(
-        out,
-        at,
-        &body[rest..],
-        &mut starts[..a],
-        &mut targets[..b],
-        &mut counts[..c],
-    )
+    let checked = check_both(lent, words, counts);
+    answered(put_checked(out, at, checked))
 }

@@ -1,13 +1,13 @@
 // The operations `s`, `w` and `r`: an image shown, written and read.
 ghost use Prim.Native.Nat.{_≤_};
+ghost use lib.ListN.{length};
+use crate::bodies::Lent;
+use crate::bodies::Room;
 use crate::bodies::lay;
-use crate::bodies::lengths;
-use crate::bytes::fill_bytes;
-use crate::bytes::fill_longs;
-use crate::bytes::fill_words;
-use crate::bytes::put_longs;
-use crate::bytes::put_words;
-use crate::bytes::word;
+use crate::bodies::rooms;
+use crate::bytes::number;
+use crate::puts::put_head;
+use crate::puts::put_slices;
 use crate::step::Step;
 use crate::step::answered;
 use crate::step::bad_case;
@@ -16,191 +16,125 @@ use crate::step::bad_case;
 const MOST: usize = image::Header::LARGEST + 1;
 
 // The operation `s`: a stream.
-pub fn show_case(
-    out: &mut [u8; 4096],
-    at: usize,
-    body: &[u8],
-    starts: &mut [u32],
-    targets: &mut [u32],
-    counts: &mut [u64],
-) -> Step
+pub fn show_case(out: &mut [u8; 4096], at: usize, body: &[u8]) -> Step
     requires { ⌜ at ≤ 4096 ⌝ }
     ensures { λ r. ⌜ r .place ≤ 4096 ⌝ }
 {
     if body.len() > MOST {
         return bad_case(out, at);
     }
-    answered(report::show_with(out, at, body, starts, targets, counts))
+    let mut starts = [0u32; 4096];
+    let mut targets = [0u32; 16_384];
+    let mut counts = [0u64; 4096];
+    answered(report::show_with(out, at, body, &mut starts, &mut targets, &mut counts))
 }
 
-// Puts what writing answered, and all bytes of the slice.
-fn put_written(out: &mut [u8; 4096], at: usize, extent: image::Extent, image: &[u8]) -> usize
-    requires { ⌜ at ≤ 4096 ⌝ }
+// Writes the image of a table into so much of the slice as the room says, and puts the answer and that much as the call left it.
+fn put_written(
+    out: &mut [u8; 4096],
+    at: usize,
+    room: usize,
+    lent: Lent,
+    words: &[u32],
+    counts: &[u64],
+    image: &mut [u8],
+) -> usize
+    requires { ⌜
+        (at ≤ 4096)
+        × (room ≤ length (now image))
+        × (lent .starts ≤ lent .rows)
+        × (lent .rows ≤ length (now words))
+        × (lent .counts ≤ length (now counts))
+        ⌝ }
     ensures { λ r. ⌜ r ≤ 4096 ⌝ }
 {
-    let mut place = text::word(out, at, b"wrote");
-    place = text::next_number(out, place, extent.number as u64);
-    place = text::next_number(out, place, extent.length as u64);
+    let a = lent.starts;
+    let e = lent.rows;
+    let c = lent.counts;
+    let extent = image::write(
+        &words[0..a],
+        &words[a..e],
+        &counts[0..c],
+        &mut image[..room],
+    );
+    let mut place = put_head(out, at, b"wrote", extent.number, extent.length);
     place = text::byte(out, place, b'\n');
-    place = text::word(out, place, image);
+    place = text::word(out, place, &image[0..room]);
     text::byte(out, place, b'\n')
 }
 
-// Writes the image of a table into a slice of bytes that are all 165, and puts the slice as the call left it.
-fn write_lent(
-    out: &mut [u8; 4096],
-    at: usize,
-    body: &[u8],
-    starts: &mut [u32],
-    targets: &mut [u32],
-    counts: &mut [u64],
-    image: &mut [u8],
-) -> Step
-    requires { ⌜ at ≤ 4096 ⌝ }
-    ensures { λ r. ⌜ r .place ≤ 4096 ⌝ }
-{
-    if !lay(body, starts, targets, counts) {
-        return bad_case(out, at);
-    }
-    fill_bytes(image, 165);
-    let extent = image::write(starts, targets, counts, image);
-    answered(put_written(out, at, extent, image))
-}
-
-// Lends to it what the lengths say.
-fn write_lengths(
-    out: &mut [u8; 4096],
-    at: usize,
-    body: &[u8],
-    starts: &mut [u32],
-    targets: &mut [u32],
-    counts: &mut [u64],
-    image: &mut [u8],
-) -> Step
-    requires { ⌜ at ≤ 4096 ⌝ }
-    ensures { λ r. ⌜ r .place ≤ 4096 ⌝ }
-{
-    let lent = lengths(body, starts, targets, counts);
-    if !lent.fit {
-        return bad_case(out, at);
-    }
-    let rest = lent.rest;
-    let a = lent.starts;
-    let b = lent.targets;
-    let c = lent.counts;
-    write_lent(
-        out,
-        at,
-        &body[rest..],
-        &mut starts[..a],
-        &mut targets[..b],
-        &mut counts[..c],
-        image,
-    )
-}
-
-// The operation `w`: the room of the image slice, three lengths, then starts, targets and counts.
+// The operation `w`: the room of the image slice, whose bytes are all 165, three lengths, then starts, targets and counts.
 pub fn write_case(
     out: &mut [u8; 4096],
     at: usize,
     body: &[u8],
-    starts: &mut [u32],
-    targets: &mut [u32],
+    words: &mut [u32],
     counts: &mut [u64],
-    image: &mut [u8],
 ) -> Step
     requires { ⌜ at ≤ 4096 ⌝ }
     ensures { λ r. ⌜ r .place ≤ 4096 ⌝ }
 {
-    if body.len() < 4 {
+    let room = number(body, 0) as usize;
+    let lent = lay(body, 4, words, counts);
+    if room > 65_536 || !lent.fit {
         return bad_case(out, at);
     }
-    let room = word(body, 0) as usize;
-    if room > image.len() {
-        return bad_case(out, at);
-    }
-    write_lengths(
-        out,
-        at,
-        &body[4..],
-        starts,
-        targets,
-        counts,
-        &mut image[..room],
-    )
+    let mut image = [165u8; 65_536];
+    answered(put_written(out, at, room, lent, words, counts, &mut image))
 }
 
-// Puts what reading answered, and all numbers of the slices.
+// Reads an image into so much of the slices as the rooms say, and puts the answer and that much as the call left it.
 fn put_read(
     out: &mut [u8; 4096],
     at: usize,
-    sizes: image::Sizes,
-    starts: &[u32],
-    targets: &[u32],
-    counts: &[u64],
+    stream: &[u8],
+    room: Room,
+    starts: &mut [u32],
+    targets: &mut [u32],
+    counts: &mut [u64],
 ) -> usize
-    requires { ⌜ at ≤ 4096 ⌝ }
+    requires { ⌜
+        (at ≤ 4096)
+        × (room .starts ≤ length (now starts))
+        × (room .targets ≤ length (now targets))
+        × (room .counts ≤ length (now counts))
+        ⌝ }
     ensures { λ r. ⌜ r ≤ 4096 ⌝ }
 {
-    let mut place = text::word(out, at, b"read");
-    place = text::next_number(out, place, sizes.number as u64);
-    place = text::next_number(out, place, sizes.vertices as u64);
-    place = text::next_number(out, place, sizes.edges as u64);
-    place = text::byte(out, place, b'\n');
-    place = put_words(out, place, starts);
-    place = put_words(out, place, targets);
-    place = put_longs(out, place, counts);
-    text::byte(out, place, b'\n')
-}
-
-// Reads an image into slices of numbers that are all 7, and puts the slices as the call left them.
-fn read_lent(
-    out: &mut [u8; 4096],
-    at: usize,
-    stream: &[u8],
-    starts: &mut [u32],
-    targets: &mut [u32],
-    counts: &mut [u64],
-) -> Step
-    requires { ⌜ at ≤ 4096 ⌝ }
-    ensures { λ r. ⌜ r .place ≤ 4096 ⌝ }
-{
-    fill_words(starts, 7);
-    fill_words(targets, 7);
-    fill_longs(counts, 7);
-    let sizes = image::read(stream, starts, targets, counts);
-    answered(put_read(out, at, sizes, starts, targets, counts))
-}
-
-// The operation `r`: the rooms of the three slices, then a stream.
-pub fn read_case(
-    out: &mut [u8; 4096],
-    at: usize,
-    body: &[u8],
-    starts: &mut [u32],
-    targets: &mut [u32],
-    counts: &mut [u64],
-) -> Step
-    requires { ⌜ at ≤ 4096 ⌝ }
-    ensures { λ r. ⌜ r .place ≤ 4096 ⌝ }
-{
-    let lent = lengths(body, starts, targets, counts);
-    if !lent.fit {
-        return bad_case(out, at);
-    }
-    if body.len() - lent.rest > MOST {
-        return bad_case(out, at);
-    }
-    let rest = lent.rest;
-    let a = lent.starts;
-    let b = lent.targets;
-    let c = lent.counts;
-    read_lent(
-        out,
-        at,
-        &body[rest..],
+    let a = room.starts;
+    let b = room.targets;
+    let c = room.counts;
+    let sizes = image::read(
+        stream,
         &mut starts[..a],
         &mut targets[..b],
         &mut counts[..c],
-    )
+    );
+    let place = put_head(out, at, b"read", sizes.number, sizes.vertices);
+    let end = text::next_number(out, place, sizes.edges as u64);
+    put_slices(out, end, &starts[0..a], &targets[0..b], &counts[0..c])
+}
+
+// The operation `r`: the rooms of the three slices, whose numbers are all 7, then a stream.
+pub fn read_case(out: &mut [u8; 4096], at: usize, body: &[u8]) -> Step
+    requires { ⌜ at ≤ 4096 ⌝ }
+    ensures { λ r. ⌜ r .place ≤ 4096 ⌝ }
+{
+    let room = rooms(body, 0);
+    let rest = room.rest;
+    if !room.fit || body.len() - rest > MOST {
+        return bad_case(out, at);
+    }
+    let mut starts = [7u32; 4096];
+    let mut targets = [7u32; 16_384];
+    let mut counts = [7u64; 4096];
+    answered(put_read(
+        out,
+        at,
+        &body[rest..],
+        room,
+        &mut starts,
+        &mut targets,
+        &mut counts,
+    ))
 }

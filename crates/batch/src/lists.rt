@@ -1,96 +1,62 @@
 // The operations `l` and `j`: the superbubbles of a table listed, and one pair judged.
 ghost use Prim.Native.Nat.{_≤_};
+ghost use lib.ListN.{length};
+use crate::bodies::Lent;
 use crate::bodies::lay_rows;
-use crate::bodies::row_lengths;
-use crate::bytes::fill_words;
-use crate::bytes::put_words;
-use crate::bytes::word;
+use crate::bytes::number;
+use crate::puts::put_head;
+use crate::puts::put_words;
 use crate::step::Step;
 use crate::step::answered;
 use crate::step::bad_case;
 
-// Puts what listing answered, and all numbers of the slice.
-fn put_listed(out: &mut [u8; 4096], at: usize, listed: listing::Found, list: &[u32]) -> usize
-    requires { ⌜ at ≤ 4096 ⌝ }
+// Lists the superbubbles of a table into so much of the slice as the room says, and puts the answer and that much as the call left it.
+fn put_listed(
+    out: &mut [u8; 4096],
+    at: usize,
+    room: usize,
+    lent: Lent,
+    words: &[u32],
+    list: &mut [u32],
+) -> usize
+    requires { ⌜
+        (at ≤ 4096)
+        × (room ≤ length (now list))
+        × (lent .starts ≤ lent .rows)
+        × (lent .rows ≤ length (now words))
+        ⌝ }
     ensures { λ r. ⌜ r ≤ 4096 ⌝ }
 {
-    let mut place = text::word(out, at, b"list");
-    place = text::next_number(out, place, listed.number as u64);
-    place = text::next_number(out, place, listed.found as u64);
+    let a = lent.starts;
+    let e = lent.rows;
+    let listed = listing::list(&words[0..a], &words[a..e], &mut list[..room]);
+    let mut place = put_head(out, at, b"list", listed.number, listed.found);
     place = text::byte(out, place, b'\n');
-    place = put_words(out, place, list);
+    place = put_words(out, place, &list[0..room]);
     text::byte(out, place, b'\n')
 }
 
-// Lists the superbubbles of a table into a slice of numbers that are all 7, and puts the slice as the call left it.
-fn list_lent(
-    out: &mut [u8; 4096],
-    at: usize,
-    body: &[u8],
-    starts: &mut [u32],
-    targets: &mut [u32],
-    list: &mut [u32],
-) -> Step
+// The operation `l`: the room of the list slice, whose numbers are all 7, two lengths, then starts and targets.
+pub fn list_case(out: &mut [u8; 4096], at: usize, body: &[u8], words: &mut [u32]) -> Step
     requires { ⌜ at ≤ 4096 ⌝ }
     ensures { λ r. ⌜ r .place ≤ 4096 ⌝ }
 {
-    if !lay_rows(body, starts, targets) {
+    let room = number(body, 0) as usize;
+    let lent = lay_rows(body, 4, words);
+    if room > 8192 || !lent.fit {
         return bad_case(out, at);
     }
-    fill_words(list, 7);
-    let listed = listing::list(starts, targets, list);
-    answered(put_listed(out, at, listed, list))
+    let mut list = [7u32; 8192];
+    answered(put_listed(out, at, room, lent, words, &mut list))
 }
 
-// Lends to it what the lengths say.
-fn list_lengths(
-    out: &mut [u8; 4096],
-    at: usize,
-    body: &[u8],
-    starts: &mut [u32],
-    targets: &mut [u32],
-    list: &mut [u32],
-) -> Step
-    requires { ⌜ at ≤ 4096 ⌝ }
-    ensures { λ r. ⌜ r .place ≤ 4096 ⌝ }
+// Judges one pair of a table.
+fn judge_lent(lent: Lent, words: &[u32], s: u32, t: u32) -> listing::Judgement
+    requires { ⌜ (lent .starts ≤ lent .rows) × (lent .rows ≤ length (now words)) ⌝ }
 {
-    let lent = row_lengths(body, starts, targets);
-    if !lent.fit {
-        return bad_case(out, at);
-    }
-    let rest = lent.rest;
     let a = lent.starts;
-    let b = lent.targets;
-    list_lent(
-        out,
-        at,
-        &body[rest..],
-        &mut starts[..a],
-        &mut targets[..b],
-        list,
-    )
-}
-
-// The operation `l`: the room of the list slice, two lengths, then starts and targets.
-pub fn list_case(
-    out: &mut [u8; 4096],
-    at: usize,
-    body: &[u8],
-    starts: &mut [u32],
-    targets: &mut [u32],
-    list: &mut [u32],
-) -> Step
-    requires { ⌜ at ≤ 4096 ⌝ }
-    ensures { λ r. ⌜ r .place ≤ 4096 ⌝ }
-{
-    if body.len() < 4 {
-        return bad_case(out, at);
-    }
-    let room = word(body, 0) as usize;
-    if room > list.len() {
-        return bad_case(out, at);
-    }
-    list_lengths(out, at, &body[4..], starts, targets, &mut list[..room])
+    let e = lent.rows;
+    listing::judge(&words[0..a], &words[a..e], s, t)
 }
 
 // Puts what judging answered.
@@ -98,79 +64,20 @@ fn put_judged(out: &mut [u8; 4096], at: usize, judged: listing::Judgement) -> us
     requires { ⌜ at ≤ 4096 ⌝ }
     ensures { λ r. ⌜ r ≤ 4096 ⌝ }
 {
-    let mut place = text::word(out, at, b"judge");
-    place = text::next_number(out, place, judged.number as u64);
-    place = text::next_number(out, place, judged.yes as u64);
+    let mut place = put_head(out, at, b"judge", judged.number, judged.yes as usize);
     place = text::next_number(out, place, judged.size as u64);
     text::byte(out, place, b'\n')
 }
 
-// Judges one pair of a table, and puts the answer.
-fn judge_lent(
-    out: &mut [u8; 4096],
-    at: usize,
-    body: &[u8],
-    starts: &mut [u32],
-    targets: &mut [u32],
-    s: u32,
-    t: u32,
-) -> Step
+// The operation `j`: the pair, two lengths, then starts and targets.
+pub fn judge_case(out: &mut [u8; 4096], at: usize, body: &[u8], words: &mut [u32]) -> Step
     requires { ⌜ at ≤ 4096 ⌝ }
     ensures { λ r. ⌜ r .place ≤ 4096 ⌝ }
 {
-    if !lay_rows(body, starts, targets) {
-        return bad_case(out, at);
-    }
-    let judged = listing::judge(starts, targets, s, t);
-    answered(put_judged(out, at, judged))
-}
-
-// Lends to it what the lengths say.
-fn judge_lengths(
-    out: &mut [u8; 4096],
-    at: usize,
-    body: &[u8],
-    starts: &mut [u32],
-    targets: &mut [u32],
-    s: u32,
-    t: u32,
-) -> Step
-    requires { ⌜ at ≤ 4096 ⌝ }
-    ensures { λ r. ⌜ r .place ≤ 4096 ⌝ }
-{
-    let lent = row_lengths(body, starts, targets);
+    let lent = lay_rows(body, 8, words);
     if !lent.fit {
         return bad_case(out, at);
     }
-    let rest = lent.rest;
-    let a = lent.starts;
-    let b = lent.targets;
-    judge_lent(
-        out,
-        at,
-        &body[rest..],
-        &mut starts[..a],
-        &mut targets[..b],
-        s,
-        t,
-    )
-}
-
-// The operation `j`: the pair, two lengths, then starts and targets.
-pub fn judge_case(
-    out: &mut [u8; 4096],
-    at: usize,
-    body: &[u8],
-    starts: &mut [u32],
-    targets: &mut [u32],
-) -> Step
-    requires { ⌜ at ≤ 4096 ⌝ }
-    ensures { λ r. ⌜ r .place ≤ 4096 ⌝ }
-{
-    if body.len() < 8 {
-        return bad_case(out, at);
-    }
-    let s = word(body, 0);
-    let t = word(body, 4);
-    judge_lengths(out, at, &body[8..], starts, targets, s, t)
+    let judged = judge_lent(lent, words, number(body, 0), number(body, 4));
+    answered(put_judged(out, at, judged))
 }

@@ -7,10 +7,13 @@ mod checks;
 mod folds;
 mod images;
 mod lists;
+mod puts;
 mod step;
 
 ghost use Prim.Native.Nat.{_≤_, _<_};
-use bytes::word;
+ghost use mathlib.Core.Path.{_≡_};
+ghost use lib.ListN.{length};
+use bytes::number;
 use checks::check_case;
 use folds::fold_case;
 use images::read_case;
@@ -22,37 +25,80 @@ use step::Step;
 use step::bad_case;
 use step::last;
 
-// The length of the body, which stands behind the operation.
-fn body_length(head: &[u8; 5]) -> usize {
-    word(head, 1) as usize
+// A case as it was read: whether there is one, its operation, and the length of its body. One that is cut off or too long has the operation 0, which is none.
+struct Case {
+    more: bool,
+    operation: u8,
+    length: usize,
 }
 
-// Reads the body, which fills its slice, and answers the case.
+fn cut_off() -> Case
+    ensures { λ r. ⌜ r .length ≡ 0 ⌝ }
+{
+    Case {
+        more: true,
+        operation: 0,
+        length: 0,
+    }
+}
+
+// Reads the body of a case behind its head.
+fn read_body(head: &[u8; 5], body: &mut [u8]) -> Case
+    ensures { λ r. ⌜ r .length ≤ length (now (body .exit)) ⌝ }
+{
+    let length = number(head, 1) as usize;
+    if length > body.len() {
+        return cut_off();
+    }
+    if io::read_full(libc::STDIN_FILENO, &mut body[..length]) < length {
+        return cut_off();
+    }
+    Case {
+        more: true,
+        operation: head[0],
+        length,
+    }
+}
+
+// Reads a case, or finds the input at its end.
+fn next_case(body: &mut [u8]) -> Case
+    ensures { λ r. ⌜ r .length ≤ length (now (body .exit)) ⌝ }
+{
+    let mut head = [0u8; 5];
+    let came = io::read_full(libc::STDIN_FILENO, &mut head);
+    if came == 0 {
+        return Case {
+            more: false,
+            operation: 0,
+            length: 0,
+        };
+    }
+    if came < 5 {
+        return cut_off();
+    }
+    read_body(&head, body)
+}
+
+// Answers a case.
 fn answer(
     out: &mut [u8; 4096],
     at: usize,
     operation: u8,
-    body: &mut [u8],
-    starts: &mut [u32],
-    targets: &mut [u32],
+    body: &[u8],
+    words: &mut [u32],
     counts: &mut [u64],
-    image: &mut [u8],
-    list: &mut [u32],
 ) -> Step
     requires { ⌜ at ≤ 4096 ⌝ }
     ensures { λ r. ⌜ r .place ≤ 4096 ⌝ }
 {
-    if io::read_full(libc::STDIN_FILENO, body) < body.len() {
-        return bad_case(out, at);
-    }
     match operation {
-        b's' => show_case(out, at, body, starts, targets, counts),
-        b't' => check_case(out, at, body, starts, targets, counts),
-        b'w' => write_case(out, at, body, starts, targets, counts, image),
-        b'r' => read_case(out, at, body, starts, targets, counts),
-        b'l' => list_case(out, at, body, starts, targets, list),
-        b'j' => judge_case(out, at, body, starts, targets),
-        b'f' => fold_case(out, at, body, starts, targets, counts),
+        b's' => show_case(out, at, body),
+        b't' => check_case(out, at, body, words, counts),
+        b'w' => write_case(out, at, body, words, counts),
+        b'r' => read_case(out, at, body),
+        b'l' => list_case(out, at, body, words),
+        b'j' => judge_case(out, at, body, words),
+        b'f' => fold_case(out, at, body, words, counts),
         _ => bad_case(out, at),
     }
 }
@@ -62,38 +108,18 @@ fn one_case(
     out: &mut [u8; 4096],
     at: usize,
     body: &mut [u8],
-    starts: &mut [u32],
-    targets: &mut [u32],
+    words: &mut [u32],
     counts: &mut [u64],
-    image: &mut [u8],
-    list: &mut [u32],
 ) -> Step
     requires { ⌜ at ≤ 4096 ⌝ }
     ensures { λ r. ⌜ r .place ≤ 4096 ⌝ }
 {
-    let mut head = [0u8; 5];
-    let came = io::read_full(libc::STDIN_FILENO, &mut head);
-    if came == 0 {
+    let case = next_case(body);
+    if !case.more {
         return last(at);
     }
-    if came < 5 {
-        return bad_case(out, at);
-    }
-    let length = body_length(&head);
-    if length > body.len() {
-        return bad_case(out, at);
-    }
-    answer(
-        out,
-        at,
-        head[0],
-        &mut body[..length],
-        starts,
-        targets,
-        counts,
-        image,
-        list,
-    )
+    let length = case.length;
+    answer(out, at, case.operation, &body[0..length], words, counts)
 }
 
 // The turns that are left after one: none after the last case.
@@ -105,19 +131,11 @@ fn turns_left(turns: u64, more: bool) -> u64
 }
 
 // Answers every case, and writes out what is left. A proved loop has to end, and nothing says that the input does: so it counts its turns down, from a number that no run uses up.
-fn all_cases(
-    out: &mut [u8; 4096],
-    body: &mut [u8],
-    starts: &mut [u32],
-    targets: &mut [u32],
-    counts: &mut [u64],
-    image: &mut [u8],
-    list: &mut [u32],
-) {
+fn all_cases(out: &mut [u8; 4096], body: &mut [u8], words: &mut [u32], counts: &mut [u64]) {
     let mut turns = u64::MAX;
     let mut at = 0;
     while turns > 0 {
-        let step = one_case(out, at, body, starts, targets, counts, image, list);
+        let step = one_case(out, at, body, words, counts);
         at = step.place;
         turns = turns_left(turns, step.more);
     }
@@ -127,18 +145,7 @@ fn all_cases(
 fn main() {
     let mut out = io::buffer();
     let mut body = [0u8; 131_072];
-    let mut starts = [0u32; 4096];
-    let mut targets = [0u32; 16_384];
+    let mut words = [0u32; 20_480];
     let mut counts = [0u64; 4096];
-    let mut image = [0u8; 65_536];
-    let mut list = [0u32; 8192];
-    all_cases(
-        &mut out,
-        &mut body,
-        &mut starts,
-        &mut targets,
-        &mut counts,
-        &mut image,
-        &mut list,
-    );
+    all_cases(&mut out, &mut body, &mut words, &mut counts);
 }

@@ -7,18 +7,11 @@ use Rattle.batch.proofs.all_cases.Statement.{statement}
 use Rattle.batch.proofs.all_cases.Tie as tie
 
 abbrev Inv-loop : tie.InvT-loop
-Inv-loop out₀ body₀ starts₀ targets₀ counts₀ image₀ list₀ turns₀ at₀ out body starts targets counts image list turns at =
-    (at ≤ 4096)
-    × (length body ≡ length body₀)
-    × (length starts ≡ length starts₀)
-    × (length targets ≡ length targets₀)
-    × (length counts ≡ length counts₀)
-    × (length image ≡ length image₀)
-    × (length list ≡ length list₀)
+Inv-loop out₀ body₀ words₀ counts₀ turns₀ at₀ out body words counts turns at =
+    (at ≤ 4096) × (length body ≡ length body₀) × (length words ≡ length words₀) × (length counts ≡ length counts₀)
 
 abbrev μ-loop : tie.MeasureT-loop
-μ-loop out₀ body₀ starts₀ targets₀ counts₀ image₀ list₀ turns₀ at₀ out body starts targets counts image list turns at =
-    turns
+μ-loop out₀ body₀ words₀ counts₀ turns₀ at₀ out body words counts turns at = turns
 
 loop-holds : tie.Need-loop-holds Inv-loop μ-loop
 loop-holds c = search needs
@@ -47,15 +40,6 @@ same-length-2 c = search needs
 same-length-3 : tie.Need-same-length-3 Inv-loop μ-loop
 same-length-3 c = search needs
 
-same-length-4 : tie.Need-same-length-4 Inv-loop μ-loop
-same-length-4 c = search needs
-
-same-length-5 : tie.Need-same-length-5 Inv-loop μ-loop
-same-length-5 c = search needs
-
-same-length-6 : tie.Need-same-length-6 Inv-loop μ-loop
-same-length-6 c = search needs
-
 returns : tie.Need-returns Inv-loop μ-loop
 returns c = search needs
 
@@ -74,7 +58,4 @@ all-cases-spec =
     same-length
     same-length-2
     same-length-3
-    same-length-4
-    same-length-5
-    same-length-6
     returns)

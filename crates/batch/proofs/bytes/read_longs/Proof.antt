@@ -7,10 +7,10 @@ use Rattle.batch.proofs.bytes.read_longs.Statement.{statement}
 use Rattle.batch.proofs.bytes.read_longs.Tie as tie
 
 abbrev Inv-loop : tie.InvT-loop
-Inv-loop bytes at numbers₀ k₀ numbers k = (k ≤ length numbers₀) × (length numbers ≡ length numbers₀)
+Inv-loop bytes at n numbers₀ k₀ numbers k = (k ≤ n) × (length numbers ≡ length numbers₀)
 
 abbrev μ-loop : tie.MeasureT-loop
-μ-loop bytes at numbers₀ k₀ numbers k = length numbers₀ - k
+μ-loop bytes at n numbers₀ k₀ numbers k = n - k
 
 loop-holds : tie.Need-loop-holds Inv-loop μ-loop
 loop-holds c = search needs

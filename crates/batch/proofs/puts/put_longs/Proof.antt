@@ -1,10 +1,10 @@
--- `batch::bytes::put_words` meets its contract. The loop's invariant: the place lies within the buffer. Assumes nothing.
+-- `batch::puts::put_longs` meets its contract. The loop's invariant: the place lies within the buffer. Assumes nothing.
 use Prim.Native.Nat.{_-_, _≤_}
 use native.Mathlib.Omega.{arith}
 use lib.ListN.{length}
 use borrow.Author.Needs.{needs}
-use Rattle.batch.proofs.bytes.put_words.Statement.{statement}
-use Rattle.batch.proofs.bytes.put_words.Tie as tie
+use Rattle.batch.proofs.puts.put_longs.Statement.{statement}
+use Rattle.batch.proofs.puts.put_longs.Tie as tie
 
 abbrev Inv-loop : tie.InvT-loop
 Inv-loop out₀ at numbers place₀ k₀ out place k = (k ≤ length numbers) × (place ≤ 4096)
@@ -15,17 +15,17 @@ abbrev μ-loop : tie.MeasureT-loop
 loop-holds : tie.Need-loop-holds Inv-loop μ-loop
 loop-holds c = search needs
 
-mul-put-word : tie.Need-mul-put-word Inv-loop μ-loop
-mul-put-word c = search needs
+mul-x : tie.Need-mul-x Inv-loop μ-loop
+mul-x c = search needs
 
-shared-slice-read-put-word : tie.Need-shared-slice-read-put-word Inv-loop μ-loop
-shared-slice-read-put-word c = search needs
-
-cast-put-word : tie.Need-cast-put-word Inv-loop μ-loop
-cast-put-word c = omega (arith, c .shared-slice-known2 .given (c .before .before .before .loop .k))
+shared-slice-read-x : tie.Need-shared-slice-read-x Inv-loop μ-loop
+shared-slice-read-x c = search needs
 
 put-word-requires : tie.Need-put-word-requires Inv-loop μ-loop
 put-word-requires c κs = search needs
+
+put-word-requires-2 : tie.Need-put-word-requires-2 Inv-loop μ-loop
+put-word-requires-2 c κs = search needs
 
 add-k : tie.Need-add-k Inv-loop μ-loop
 add-k c = search needs
@@ -39,17 +39,17 @@ loop-again c = search needs
 returns : tie.Need-returns Inv-loop μ-loop
 returns c = search needs
 
-pub put-words-spec : {M : Type 1} → statement M
-put-words-spec =
+pub put-longs-spec : {M : Type 1} → statement M
+put-longs-spec =
     tie.close
     (tie.spec
     Inv-loop
     μ-loop
     loop-holds
-    mul-put-word
-    shared-slice-read-put-word
-    cast-put-word
+    mul-x
+    shared-slice-read-x
     put-word-requires
+    put-word-requires-2
     add-k
     loop-less
     loop-again

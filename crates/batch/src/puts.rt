@@ -1,0 +1,79 @@
+// What a case puts into the output: the line of its answer, and all numbers of the slices lent.
+ghost use Prim.Native.Nat.{_≤_};
+
+// Puts a name and a number.
+pub fn put_named(out: &mut [u8; 4096], at: usize, name: &[u8], number: u32) -> usize
+    requires { ⌜ at ≤ 4096 ⌝ }
+    ensures { λ r. ⌜ r ≤ 4096 ⌝ }
+{
+    let place = text::word(out, at, name);
+    text::next_number(out, place, number as u64)
+}
+
+// Puts the name of an answer, its number, and the number that follows.
+pub fn put_head(out: &mut [u8; 4096], at: usize, name: &[u8], number: u32, next: usize) -> usize
+    requires { ⌜ at ≤ 4096 ⌝ }
+    ensures { λ r. ⌜ r ≤ 4096 ⌝ }
+{
+    let place = put_named(out, at, name, number);
+    text::next_number(out, place, next as u64)
+}
+
+// Puts a number in four bytes.
+fn put_word(out: &mut [u8; 4096], at: usize, x: u64) -> usize
+    requires { ⌜ at ≤ 4096 ⌝ }
+    ensures { λ r. ⌜ r ≤ 4096 ⌝ }
+{
+    let mut place = text::byte(out, at, (x % 256) as u8);
+    place = text::byte(out, place, (x / 256 % 256) as u8);
+    place = text::byte(out, place, (x / 65_536 % 256) as u8);
+    text::byte(out, place, (x / 16_777_216 % 256) as u8)
+}
+
+// Puts each number in four bytes.
+pub fn put_words(out: &mut [u8; 4096], at: usize, numbers: &[u32]) -> usize
+    requires { ⌜ at ≤ 4096 ⌝ }
+    ensures { λ r. ⌜ r ≤ 4096 ⌝ }
+{
+    let mut place = at;
+    let mut k = 0;
+    while k < numbers.len() {
+        place = put_word(out, place, numbers[k] as u64);
+        k += 1;
+    }
+    place
+}
+
+// Puts each number in eight bytes.
+pub fn put_longs(out: &mut [u8; 4096], at: usize, numbers: &[u64]) -> usize
+    requires { ⌜ at ≤ 4096 ⌝ }
+    ensures { λ r. ⌜ r ≤ 4096 ⌝ }
+{
+    let mut place = at;
+    let mut k = 0;
+    while k < numbers.len() {
+        let x = numbers[k];
+        place = put_word(out, place, x);
+        place = put_word(out, place, x / 4_294_967_296);
+        k += 1;
+    }
+    place
+}
+
+// Ends a line, and puts each number of the three slices.
+pub fn put_slices(
+    out: &mut [u8; 4096],
+    at: usize,
+    starts: &[u32],
+    targets: &[u32],
+    counts: &[u64],
+) -> usize
+    requires { ⌜ at ≤ 4096 ⌝ }
+    ensures { λ r. ⌜ r ≤ 4096 ⌝ }
+{
+    let mut place = text::byte(out, at, b'\n');
+    place = put_words(out, place, starts);
+    place = put_words(out, place, targets);
+    place = put_longs(out, place, counts);
+    text::byte(out, place, b'\n')
+}
