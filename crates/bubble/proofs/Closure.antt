@@ -1,5 +1,4 @@
--- All that the steps of a relation lead to, computed, for a relation whose steps end below n.
--- Assumes nothing.
+-- All that the steps of a relation lead to, computed, for a relation whose steps end below n. Assumes nothing.
 use Prim.Native.Nat.{ℕ, zero, suc, _+_, _≤_, _<_}
 use mathlib.Core.Path.{refl}
 use mathlib.Core.Logic.{_⊎_, inl, inr, ⊎-elim}

@@ -1,5 +1,4 @@
--- In a finite graph F, B, bubbloid and superbubble are decided, by tests that compute.
--- Assumes nothing.
+-- In a finite graph F, B, bubbloid and superbubble are decided, by tests that compute. Assumes nothing.
 use Prim.Native.Nat.{ℕ}
 use mathlib.Core.Path.{_≡_, refl}
 use mathlib.Core.Logic.{_≢_, _↔_, _⊎_, inl, inr, ⊎-elim}

@@ -1,5 +1,4 @@
--- All superbubbles of a finite graph, listed by a computation.
--- Assumes nothing.
+-- All superbubbles of a finite graph, listed by a computation. Assumes nothing.
 use Prim.Native.Nat.{ℕ, zero, suc, _<_}
 use mathlib.Core.Path.{subst}
 use mathlib.Core.Logic.{_↔_, ⊎-elim}

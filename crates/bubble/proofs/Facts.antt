@@ -1,5 +1,4 @@
--- The facts of a bubbloid with entrance s, exit t and set U = F s t: first by entrance, then their twins by exit, in the graph turned round.
--- Assumes nothing.
+-- The facts of a bubbloid with entrance s, exit t and set U = F s t: first by entrance, then their twins by exit, in the graph turned round. Assumes nothing.
 use Prim.Native.Nat.{ℕ}
 use mathlib.Core.Path.{refl}
 use mathlib.Core.Logic.{_≢_, ⊎-elim}

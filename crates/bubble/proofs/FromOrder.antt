@@ -1,5 +1,4 @@
--- From an order to a bubbloid: the vertices at the places 0 to k of a list in which children stand later and parents earlier are the set of one.
--- Assumes nothing.
+-- From an order to a bubbloid: the vertices at the places 0 to k of a list in which children stand later and parents earlier are the set of one. Assumes nothing.
 use Prim.Native.Nat.{ℕ, zero, suc, _+_, _≤_, _<_}
 use mathlib.Core.Path.{_≡_, refl, sym}
 use mathlib.Core.Logic.{_≢_, _↔_}

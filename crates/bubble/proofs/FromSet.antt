@@ -1,5 +1,4 @@
--- From a set to a bubbloid: a set that is closed but at its two ends, and has no cycle, is the set of one.
--- Assumes nothing.
+-- From a set to a bubbloid: a set that is closed but at its two ends, and has no cycle, is the set of one. Assumes nothing.
 use Prim.Native.Nat.{ℕ}
 use mathlib.Core.Logic.{_≢_, _↔_}
 use Rattle.bubble.specs.Superbubble.{F, F.start, F.on, B, B.end, B.from, Walk, Bubbloid}

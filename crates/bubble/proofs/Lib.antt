@@ -1,5 +1,4 @@
--- The theory of superbubbles, for any graph, cycles and self-loops included. Each file begins with what it shows; a file cites only files above it here.
--- Assumes nothing.
+-- The theory of superbubbles, for any graph, cycles and self-loops included. Each file begins with what it shows; a file cites only files above it here. Assumes nothing.
 pub mod Walks
 pub mod Reversal
 pub mod Facts

@@ -1,5 +1,4 @@
--- An edge that is the only one out of its tail and the only one into its head, and has none back, is a superbubble with no interior.
--- Assumes nothing.
+-- An edge that is the only one out of its tail and the only one into its head, and has none back, is a superbubble with no interior. Assumes nothing.
 use Prim.Native.Nat.{ℕ}
 use mathlib.Core.Path.{_≡_, refl, sym}
 use mathlib.Core.Logic.{_≢_, _↔_, _⊎_, inl, inr, ⊎-elim}

@@ -1,5 +1,4 @@
--- Two superbubbles are nested or apart, in any graph.
--- Assumes nothing.
+-- Two superbubbles are nested or apart, in any graph. Assumes nothing.
 use Prim.Native.Nat.{ℕ}
 use mathlib.Core.Path.{sym}
 use mathlib.Core.Logic.{_≢_, _⊎_, inl, inr, ⊎-elim, ⊎-map}

@@ -1,5 +1,4 @@
--- A graph whose edges lie below n has at most n superbubbles.
--- Assumes nothing.
+-- A graph whose edges lie below n has at most n superbubbles. Assumes nothing.
 use Prim.Native.Nat.{ℕ, _≤_, _<_}
 use mathlib.Core.Path.{_≡_, sym}
 use mathlib.Core.List.{List, map, List·Memᴰ, Memᴰ·of-map}

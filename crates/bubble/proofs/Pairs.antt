@@ -1,5 +1,4 @@
--- When two vertices of known bubbloids form a bubbloid themselves.
--- Assumes nothing.
+-- When two vertices of known bubbloids form a bubbloid themselves. Assumes nothing.
 use Prim.Native.Nat.{ℕ}
 use mathlib.Core.Path.{sym}
 use mathlib.Core.Logic.{_≢_, _↔_}

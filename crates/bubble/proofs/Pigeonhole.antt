@@ -1,5 +1,4 @@
--- Lists of pairwise different entries: such a list is no longer than one that holds all its entries, so no longer than n if its entries are numbers below n.
--- Assumes nothing.
+-- Lists of pairwise different entries: such a list is no longer than one that holds all its entries, so no longer than n if its entries are numbers below n. Assumes nothing.
 use Prim.Native.Nat.{ℕ, zero, suc, _≤_, _<_}
 use mathlib.Core.Path.{_≡_, refl, sym, _∙_, ap}
 use mathlib.Core.Logic.{_≢_, ⊎-elim}

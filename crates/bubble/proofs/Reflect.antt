@@ -1,5 +1,4 @@
--- Tests that compute, and what they decide: equality, and, or, not, membership of a list, every entry of a list, the entries that pass.
--- Assumes nothing.
+-- Tests that compute, and what they decide: equality, and, or, not, membership of a list, every entry of a list, the entries that pass. Assumes nothing.
 use Prim.Native.Nat.{ℕ}
 use mathlib.Core.Path.{_≡_, refl}
 use mathlib.Core.Logic.{_↔_, _⊎_, inl, inr, ⊎-elim, ⊎-map}

@@ -1,5 +1,4 @@
--- Turning a graph round: F becomes B, and a bubbloid a bubbloid with entrance and exit changed over.
--- Assumes nothing.
+-- Turning a graph round: F becomes B, and a bubbloid a bubbloid with entrance and exit changed over. Assumes nothing.
 use Prim.Native.Nat.{ℕ}
 use mathlib.Core.Path.{_≡_, sym}
 use mathlib.Core.Logic.{_↔_, _⊎_, ⊎-map}

@@ -1,5 +1,4 @@
--- A ring of n vertices, n at least 3, has exactly n superbubbles: each vertex with the next.
--- Assumes nothing.
+-- A ring of n vertices, n at least 3, has exactly n superbubbles: each vertex with the next. Assumes nothing.
 use Prim.Native.Nat.{ℕ, suc, _≤_, _<_}
 use mathlib.Core.Path.{_≡_, refl, sym, _∙_, ap, subst}
 use mathlib.Core.Logic.{_≢_, _↔_, _⊎_, inl, inr, ⊎-elim, ite, if-pos, if-neg}

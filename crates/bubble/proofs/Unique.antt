@@ -1,5 +1,4 @@
--- One exit for each entrance and one entrance for each exit; a superbubble turned round is a superbubble.
--- Assumes nothing.
+-- One exit for each entrance and one entrance for each exit; a superbubble turned round is a superbubble. Assumes nothing.
 use Prim.Native.Nat.{ℕ}
 use mathlib.Core.Path.{_≡_, sym}
 use mathlib.Core.Logic.{_≢_, _↔_}

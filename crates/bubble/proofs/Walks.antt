@@ -1,5 +1,4 @@
--- Walks and paths in any graph: how they are joined, carried over and cut.
--- Assumes nothing.
+-- Walks and paths in any graph: how they are joined, carried over and cut. Assumes nothing.
 use Prim.Native.Nat.{ℕ}
 use mathlib.Core.Path.{_≡_, refl}
 use mathlib.Core.Logic.{_↔_, _⊎_, inl, inr, ⊎-elim}

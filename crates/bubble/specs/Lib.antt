@@ -1,1 +1,2 @@
+-- The definitions of `bubble`.
 pub mod Superbubble

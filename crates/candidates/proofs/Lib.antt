@@ -1,3 +1,4 @@
+-- The laws of `candidates`, in the order in which one reads them.
 pub mod EntranceLaws
 pub mod RuleOutLaws
 pub mod PassLaws

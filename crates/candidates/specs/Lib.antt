@@ -1,2 +1,3 @@
+-- The definitions of `candidates`, in the order in which one reads them.
 pub mod Candidates
 pub mod Steps

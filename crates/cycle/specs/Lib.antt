@@ -1,2 +1,3 @@
+-- The definitions of `cycle`, in the order in which one reads them.
 pub mod Cycle
 pub mod Visits

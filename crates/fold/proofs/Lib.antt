@@ -1,1 +1,2 @@
+-- The laws of `fold`.
 pub mod Within

@@ -1,5 +1,6 @@
-pub mod Demand
-pub mod DoneLaws
+-- The laws of `folding`, in the order in which one reads them.
 pub mod FillLaws
 pub mod TurnLaws
 pub mod TurningLaws
+pub mod DoneLaws
+pub mod Demand

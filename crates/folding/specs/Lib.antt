@@ -1,2 +1,3 @@
+-- The definitions of `folding`, in the order in which one reads them.
 pub mod Folding
 pub mod Turns

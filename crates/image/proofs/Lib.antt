@@ -1,10 +1,13 @@
-pub mod BackAndForth
+-- The laws of `image`, in the order in which one reads them.
 pub mod ByteLaws
-pub mod Determined
 pub mod HeaderLaws
-pub mod ImageBack
-pub mod Limits
 pub mod ReadLaws
-pub mod RoundTrip
-pub mod TableBack
 pub mod WriteLaws
+-- reading and writing are each other's inverse
+pub mod BackAndForth
+pub mod TableBack
+pub mod ImageBack
+pub mod RoundTrip
+-- what the contracts settle
+pub mod Determined
+pub mod Limits

@@ -1,3 +1,4 @@
+-- The definitions of `image`, in the order in which one reads them.
 pub mod Bytes
 pub mod Image
 pub mod Contracts

@@ -1,5 +1,4 @@
--- What the contract of keeping says of each vertex: a vertex of U but the exit is followed on the kept path or is dropped. So two results that it allows coincide.
--- Assumes nothing.
+-- What the contract of keeping says of each vertex: a vertex of U but the exit is followed on the kept path or is dropped. So two results that it allows coincide. Assumes nothing.
 use Prim.Native.Nat.{ℕ, _<_}
 use mathlib.Core.Path.{_≡_, sym, _∙_}
 use mathlib.Core.Logic.{_≢_, _⊎_, inl, inr, ⊎-elim}

@@ -1,8 +1,12 @@
-pub mod ChoiceLaws
-pub mod CountLaws
+-- The laws of `kept`, in the order in which one reads them.
+-- the best child of each visited vertex, the last first
 pub mod OrderLaws
+pub mod CountLaws
+pub mod ChoiceLaws
 pub mod SettleLaws
+-- the kept vertices parted from the dropped ones, the first first
 pub mod PassLaws
 pub mod PathLaws
+-- the contract, and what it settles
 pub mod KeepLaws
 pub mod DoneLaws

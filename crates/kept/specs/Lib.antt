@@ -1,2 +1,3 @@
-pub mod Steps
+-- The definitions of `kept`, in the order in which one reads them.
 pub mod Keeping
+pub mod Steps

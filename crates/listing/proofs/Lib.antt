@@ -1,6 +1,7 @@
-pub mod CountLaws
-pub mod Determined
-pub mod DoneLaws
+-- The laws of `listing`, in the order in which one reads them.
 pub mod ListLaws
 pub mod ScanLaws
+pub mod CountLaws
+pub mod DoneLaws
+pub mod Determined
 pub mod TwelveGraphs

@@ -1,3 +1,4 @@
-pub mod Graphs
+-- The definitions of `listing`, in the order in which one reads them.
 pub mod Listing
 pub mod Steps
+pub mod Graphs

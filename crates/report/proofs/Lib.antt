@@ -1,1 +1,2 @@
+-- The laws of `report`.
 pub mod ReadFronts

@@ -1,5 +1,4 @@
--- A path from entrance to exit inside U is a thread: folding one superbubble is what Thread asks for.
--- Assumes nothing.
+-- A path from entrance to exit inside U is a thread: folding one superbubble is what Thread asks for. Assumes nothing.
 use Prim.Native.Nat.{ℕ}
 use mathlib.Core.Path.{_≡_, refl}
 use mathlib.Core.Logic.{⊎-elim}

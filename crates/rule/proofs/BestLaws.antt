@@ -1,5 +1,4 @@
--- A rule that keeps the best path meets the laws if its score does and its portions come to the whole; document 01's rule is one. A kept bare edge means that every interior count is 0.
--- Assumes nothing.
+-- A rule that keeps the best path meets the laws if its score does and its portions come to the whole; document 01's rule is one. A kept bare edge means that every interior count is 0. Assumes nothing.
 use Prim.Native.Nat.{ℕ, zero, suc, _≤_, _<_}
 use mathlib.Core.Path.{_≡_, sym, _∙_}
 use mathlib.Core.Logic.{inl, ⊎-map}

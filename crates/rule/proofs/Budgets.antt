@@ -1,5 +1,4 @@
--- Folding with one or more budgets in turn is folding once with their sum.
--- Assumes nothing.
+-- Folding with one or more budgets in turn is folding once with their sum. Assumes nothing.
 use Prim.Native.Nat.{ℕ}
 use mathlib.Core.Path.{refl}
 use mathlib.Core.List.{List}

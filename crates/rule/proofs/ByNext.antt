@@ -1,5 +1,4 @@
--- The kept path by dynamic programming: where each vertex of U has its best sum and the smallest child that gives it, the path by those children from the entrance is the kept one.
--- Assumes nothing.
+-- The kept path by dynamic programming: where each vertex of U has its best sum and the smallest child that gives it, the path by those children from the entrance is the kept one. Assumes nothing.
 use Prim.Native.Nat.{ℕ, zero, suc, _+_, _≤_, _<_}
 use mathlib.Core.Path.{_≡_, refl, sym, _∙_}
 use mathlib.Core.Logic.{_≢_, _↔_, _⊎_, inl, inr, ⊎-elim, ite, if-pos, if-neg}

@@ -1,5 +1,4 @@
--- One number a vertex says which of its edges stay: n for all of them, another below n for the one that leads there, and one above n for none.
--- Assumes nothing.
+-- One number a vertex says which of its edges stay: n for all of them, another below n for the one that leads there, and one above n for none. Assumes nothing.
 use Prim.Native.Nat.{ℕ, _<_}
 use mathlib.Core.Path.{_≡_}
 use mathlib.Core.Logic.{_↔_}

@@ -1,5 +1,4 @@
--- Document 01's candidates meet the laws in every graph without a cycle.
--- Assumes nothing.
+-- Document 01's candidates meet the laws in every graph without a cycle. Assumes nothing.
 use Prim.Native.Nat.{ℕ}
 use Rattle.bubble.specs.Superbubble.{F.start, Reaches, Reaches.none, Reaches.then, Walk, Walk.edge, Walk.more}
 use Rattle.rule.specs.Lists.{Graph}

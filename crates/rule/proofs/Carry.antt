@@ -1,5 +1,4 @@
--- The paths of a pair that is clear of a folded superbubble, before and after: what they reach outside its interior is the same, and of the interior they reach the thread.
--- Assumes nothing.
+-- The paths of a pair that is clear of a folded superbubble, before and after: what they reach outside its interior is the same, and of the interior they reach the thread. Assumes nothing.
 use Prim.Native.Nat.{ℕ}
 use mathlib.Core.Path.{_≡_, sym, _∙_}
 use mathlib.Core.Logic.{_≢_, _⊎_, inl, inr, ⊎-elim, ⊎-map}

@@ -1,5 +1,4 @@
--- Of two different paths one has the smaller vertex at the first place where they differ, and two paths that none beats are the same.
--- Assumes nothing.
+-- Of two different paths one has the smaller vertex at the first place where they differ, and two paths that none beats are the same. Assumes nothing.
 use Prim.Native.Nat.{ℕ, _<_}
 use mathlib.Core.Path.{_≡_, refl, sym, ap₂}
 use mathlib.Core.Logic.{_⊎_, inl, inr, ⊎-elim, ⊎-map}

@@ -1,5 +1,4 @@
--- Two folds of the same graph and counts with the same budget coincide: edges, counts, and the numbers returned.
--- Assumes nothing.
+-- Two folds of the same graph and counts with the same budget coincide: edges, counts, and the numbers returned. Assumes nothing.
 use Prim.Native.Nat.{ℕ}
 use mathlib.Core.Path.{_≡_, refl, sym, _∙_, ap, ap₂}
 use mathlib.Core.Logic.{_↔_}

@@ -1,5 +1,4 @@
--- Budgets add: folding with one budget and then, on what is left, with another is folding once with the sum.
--- Assumes nothing.
+-- Budgets add: folding with one budget and then, on what is left, with another is folding once with the sum. Assumes nothing.
 use Prim.Native.Nat.{ℕ, _+_, _<_}
 use mathlib.Core.Path.{_≡_, sym, _∙_, ap, ap₂}
 use mathlib.Core.Logic.{_≢_, _↔_, ⊎-elim}

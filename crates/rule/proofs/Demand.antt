@@ -1,5 +1,4 @@
--- Demand 3, for document 01's rule and candidates in every graph without a cycle whose edges lie below n, and for every lawful rule and set of candidates.
--- Assumes nothing.
+-- Demand 3, for document 01's rule and candidates in every graph without a cycle whose edges lie below n, and for every lawful rule and set of candidates. Assumes nothing.
 use Prim.Native.Nat.{ℕ, _≤_}
 use mathlib.Core.Path.{_≡_}
 use mathlib.Core.List.{List}

@@ -1,5 +1,4 @@
--- Where a fold ends: with a budget of all candidates none is left, and a fold where there is none, or with budget 0, gives back its input.
--- Assumes nothing.
+-- Where a fold ends: with a budget of all candidates none is left, and a fold where there is none, or with budget 0, gives back its input. Assumes nothing.
 use Prim.Native.Nat.{ℕ, _≤_}
 use mathlib.Core.Path.{_≡_}
 use mathlib.Core.List.{List, List·Memᴰ, List·Memᴰ·not-nil, Memᴰ·map}

@@ -1,5 +1,4 @@
--- Paths and walks of a graph are paths and walks of every graph that has its edges; the interior in two graphs.
--- Assumes nothing.
+-- Paths and walks of a graph are paths and walks of every graph that has its edges; the interior in two graphs. Assumes nothing.
 use Prim.Native.Nat.{ℕ}
 use Rattle.bubble.specs.Superbubble.{F, F.start, F.on, B, B.end, B.from, Interior, Walk, Walk.edge, Walk.more, Reaches, Reaches.none, Reaches.then}
 use Rattle.rule.specs.Lists.{Graph}

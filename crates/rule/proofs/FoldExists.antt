@@ -1,5 +1,4 @@
--- Every finite graph without a cycle, with decided edges, has a fold with every budget: the rule asks for nothing that cannot be.
--- Assumes nothing.
+-- Every finite graph without a cycle, with decided edges, has a fold with every budget: the rule asks for nothing that cannot be. Assumes nothing.
 use Prim.Native.Nat.{ℕ, zero, suc, _+_, _<_}
 use mathlib.Core.Path.{_≡_, refl, sym, ap, ap₂, subst}
 use mathlib.Core.Logic.{⊎-elim}

@@ -1,5 +1,4 @@
--- What stands right after what on a list.
--- Assumes nothing.
+-- What stands right after what on a list. Assumes nothing.
 use Prim.Native.Nat.{ℕ}
 use mathlib.Core.Path.{_≡_, refl, sym, _∙_}
 use mathlib.Core.Logic.{_⊎_, inl, inr, ⊎-elim}

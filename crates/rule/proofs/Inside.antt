@@ -1,5 +1,4 @@
--- Graphs that look the same from inside a superbubble.
--- Assumes nothing.
+-- Graphs that look the same from inside a superbubble. Assumes nothing.
 use Prim.Native.Nat.{ℕ}
 use mathlib.Core.Path.{refl}
 use mathlib.Core.Logic.{_↔_}

@@ -1,5 +1,4 @@
--- Facts of items that fit a graph: arm and dropped are the interior, and no two items share a vertex of it.
--- Assumes nothing.
+-- Facts of items that fit a graph: arm and dropped are the interior, and no two items share a vertex of it. Assumes nothing.
 use Prim.Native.Nat.{ℕ}
 use mathlib.Core.Path.{_≡_}
 use mathlib.Core.Logic.{⊎-elim}

@@ -1,5 +1,4 @@
--- In a finite graph with decided edges every superbubble has a kept path: best sums and next vertices are found by going k steps deep, and U is not deep.
--- Assumes nothing.
+-- In a finite graph with decided edges every superbubble has a kept path: best sums and next vertices are found by going k steps deep, and U is not deep. Assumes nothing.
 use Prim.Native.Nat.{ℕ, zero, suc, _+_, _≤_, _<_}
 use mathlib.Core.Path.{_≡_, sym, _∙_, ap}
 use mathlib.Core.Logic.{_≢_, _⊎_, inl, inr, ⊎-elim}

@@ -1,5 +1,4 @@
--- What follows from the fold rule. Each file begins with what it shows; a file cites only files above it here.
--- Assumes nothing.
+-- What follows from the fold rule. Each file begins with what it shows; a file cites only files above it here. Assumes nothing.
 -- one superbubble is folded, in any graph
 pub mod Fewer
 pub mod Thread

@@ -1,5 +1,4 @@
--- A listing is the only one of its kind, what is left of it after its first entries is a listing too, and what is decided below n has one; places on a list.
--- Assumes nothing.
+-- A listing is the only one of its kind, what is left of it after its first entries is a listing too, and what is decided below n has one; places on a list. Assumes nothing.
 use Prim.Native.Nat.{ℕ, zero, suc, _<_}
 use mathlib.Core.Path.{_≡_, refl, sym, ap₂}
 use mathlib.Core.Logic.{_≢_, _↔_, ⊎-elim}

@@ -1,5 +1,4 @@
--- A pair that is clear of a folded superbubble is a superbubble before exactly if it is one after, and every superbubble after that has an interior is such a pair.
--- Assumes nothing.
+-- A pair that is clear of a folded superbubble is a superbubble before exactly if it is one after, and every superbubble after that has an interior is such a pair. Assumes nothing.
 use Prim.Native.Nat.{ℕ}
 use mathlib.Core.Path.{_≡_, refl, sym, _∙_}
 use mathlib.Core.Logic.{_≢_, ⊎-elim}

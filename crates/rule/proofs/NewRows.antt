@@ -1,5 +1,4 @@
--- The edges that stay, row by row: all of the row where no folded superbubble holds the vertex but at its exit, none where it is dropped, and else the one to the next vertex of the kept path.
--- Assumes nothing.
+-- The edges that stay, row by row: all of the row where no folded superbubble holds the vertex but at its exit, none where it is dropped, and else the one to the next vertex of the kept path. Assumes nothing.
 use Prim.Native.Nat.{ℕ}
 use mathlib.Core.Path.{_≡_, sym, _∙_, subst}
 use mathlib.Core.Logic.{_≢_, _↔_, ⊎-elim}

@@ -1,5 +1,4 @@
--- A superbubble apart from a folded one is clear of it, and looks the same from inside after.
--- Assumes nothing.
+-- A superbubble apart from a folded one is clear of it, and looks the same from inside after. Assumes nothing.
 use Prim.Native.Nat.{ℕ}
 use mathlib.Core.Path.{refl, sym}
 use mathlib.Core.Logic.{_≢_}

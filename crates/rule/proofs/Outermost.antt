@@ -1,5 +1,4 @@
--- A superbubble is outermost if its entrance is interior to no other. Where none with an interior is outermost, none has an interior: one around another has a new entrance, and there are only n vertices.
--- Assumes nothing.
+-- A superbubble is outermost if its entrance is interior to no other. Where none with an interior is outermost, none has an interior: one around another has a new entrance, and there are only n vertices. Assumes nothing.
 use Prim.Native.Nat.{ℕ, zero, suc, _+_, _<_}
 use mathlib.Core.Path.{refl}
 use mathlib.Core.Logic.{_↔_, ⊎-elim}

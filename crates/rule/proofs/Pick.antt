@@ -1,5 +1,4 @@
--- Of several numbers the one with the largest value, and of equal values the smallest: as a loop finds it that looks at one after another.
--- Assumes nothing.
+-- Of several numbers the one with the largest value, and of equal values the smallest: as a loop finds it that looks at one after another. Assumes nothing.
 use Prim.Native.Nat.{ℕ, _≤_, _<_}
 use mathlib.Core.Path.{_≡_, refl, sym, _∙_}
 use mathlib.Core.Logic.{_⊎_, inl, inr, ⊎-elim}

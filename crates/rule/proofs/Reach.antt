@@ -1,5 +1,4 @@
--- Folding keeps what reaches what, for vertices that are not interior to the folded superbubble.
--- Assumes nothing.
+-- Folding keeps what reaches what, for vertices that are not interior to the folded superbubble. Assumes nothing.
 use Prim.Native.Nat.{ℕ}
 use mathlib.Core.Logic.{inl, ⊎-elim}
 use Rattle.bubble.specs.Superbubble.{Reaches, Reaches.none, Reaches.then, Interior}

@@ -1,5 +1,4 @@
--- What a fold leaves: the candidates of the new graph are those after the folded ones, and each looks the same from inside, with the same counts.
--- Assumes nothing.
+-- What a fold leaves: the candidates of the new graph are those after the folded ones, and each looks the same from inside, with the same counts. Assumes nothing.
 use Prim.Native.Nat.{ℕ, min}
 use mathlib.Core.Path.{_≡_, sym, _∙_, ap}
 use mathlib.Core.List.{List·Memᴰ, Memᴰ·map, Memᴰ·cast}

@@ -1,5 +1,4 @@
--- Only which edges there are counts: graphs with the same edges have the same bubbloids and superbubbles.
--- Assumes nothing.
+-- Only which edges there are counts: graphs with the same edges have the same bubbloids and superbubbles. Assumes nothing.
 use Prim.Native.Nat.{ℕ}
 use mathlib.Core.Logic.{_↔_}
 use Rattle.bubble.specs.Superbubble.{Interior, Bubbloid, Superbubble}

@@ -1,5 +1,4 @@
--- Tables and graphs: well-formed tables with as many vertices, the same edges and the same counts are the same, and the sum of the counts is the total over all vertices.
--- Assumes nothing.
+-- Tables and graphs: well-formed tables with as many vertices, the same edges and the same counts are the same, and the sum of the counts is the total over all vertices. Assumes nothing.
 use Prim.Native.Nat.{ℕ, zero, suc, _+_, _-_, _<_}
 use mathlib.Core.Path.{_≡_, refl, sym, _∙_, ap, ap₂}
 use mathlib.Core.Logic.{_↔_, ⊎-elim}

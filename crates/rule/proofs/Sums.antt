@@ -1,5 +1,4 @@
--- Sums of counts: over a list, and over all vertices below n. Counts that change only on a list of different vertices, and keep its sum, keep the total.
--- Assumes nothing.
+-- Sums of counts: over a list, and over all vertices below n. Counts that change only on a list of different vertices, and keep its sum, keep the total. Assumes nothing.
 use Prim.Native.Nat.{ℕ, zero, suc, _+_, _<_}
 use mathlib.Core.Path.{_≡_, refl, sym, _∙_, ap₂}
 use mathlib.Core.Logic.{_≢_, _↔_, ⊎-elim, ite, if-pos, if-neg}

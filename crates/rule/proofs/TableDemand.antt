@@ -1,5 +1,4 @@
--- Demand 3 for tables: starts, targets and counts.
--- Assumes nothing.
+-- Demand 3 for tables: starts, targets and counts. Assumes nothing.
 use Prim.Native.Nat.{ℕ, _≤_}
 use mathlib.Core.Path.{_≡_, refl, sym, _∙_}
 use mathlib.Core.List.{List}

@@ -1,5 +1,4 @@
--- One folded superbubble s, t without its list: N u v says that v follows u on the kept path. All that is asked of it is the same in the graph turned round.
--- Assumes nothing.
+-- One folded superbubble s, t without its list: N u v says that v follows u on the kept path. All that is asked of it is the same in the graph turned round. Assumes nothing.
 use Prim.Native.Nat.{ℕ}
 use mathlib.Core.Path.{_≡_}
 use mathlib.Core.Logic.{_≢_, _↔_}

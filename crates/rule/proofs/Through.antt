@@ -1,5 +1,4 @@
--- Each interior vertex lies on some arm, and in a graph without a cycle each path from entrance to exit is an arm.
--- Assumes nothing.
+-- Each interior vertex lies on some arm, and in a graph without a cycle each path from entrance to exit is an arm. Assumes nothing.
 use Prim.Native.Nat.{ℕ}
 use mathlib.Core.Path.{refl}
 use mathlib.Core.Logic.{_≢_, ⊎-elim}

@@ -1,5 +1,4 @@
--- Folding several candidates at once is folding them one after another: the candidates after are the others, and each looks the same from inside.
--- Assumes nothing.
+-- Folding several candidates at once is folding them one after another: the candidates after are the others, and each looks the same from inside. Assumes nothing.
 use Prim.Native.Nat.{ℕ}
 use mathlib.Core.Path.{refl, sym}
 use mathlib.Core.Logic.{_≢_, _↔_, ⊎-elim}

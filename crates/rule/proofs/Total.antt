@@ -1,5 +1,4 @@
--- A fold never moves the total of the counts: what one superbubble drops is added inside it.
--- Assumes nothing.
+-- A fold never moves the total of the counts: what one superbubble drops is added inside it. Assumes nothing.
 use Prim.Native.Nat.{ℕ, suc, _<_}
 use mathlib.Core.Path.{_≡_, refl, sym, subst}
 use mathlib.Core.Logic.{⊎-elim}

@@ -1,5 +1,4 @@
--- A pair that is clear of a folded superbubble is a bubbloid before exactly if it is one after.
--- Assumes nothing.
+-- A pair that is clear of a folded superbubble is a bubbloid before exactly if it is one after. Assumes nothing.
 use Prim.Native.Nat.{ℕ}
 use mathlib.Core.Path.{_≡_, refl, sym, _∙_}
 use mathlib.Core.Logic.{_≢_, _⊎_, inl, inr, ⊎-elim, ⊎-map}

@@ -1,5 +1,4 @@
--- Where a vertex stands among folded superbubbles: on a kept path, among the dropped, or in neither.
--- Assumes nothing.
+-- Where a vertex stands among folded superbubbles: on a kept path, among the dropped, or in neither. Assumes nothing.
 use Prim.Native.Nat.{ℕ}
 use mathlib.Core.Path.{refl}
 use mathlib.Core.Logic.{⊎-elim}

@@ -1,6 +1,5 @@
 -- Document 01's fold as a definition over any graph with counts: candidates, sets, kept paths and sums are those of the graph handed in.
--- Which superbubbles are candidates, what is kept and how the dropped counts are shared are arguments; `Candidate` and `first-takes-all` are document 01's.
--- Assumes nothing.
+-- Which superbubbles are candidates, what is kept and how the dropped counts are shared are arguments; `Candidate` and `first-takes-all` are document 01's. Assumes nothing.
 use Prim.Native.Nat.{ℕ, zero, suc, _+_, _<_}
 use mathlib.Core.Path.{_≡_}
 use mathlib.Core.Logic.{_↔_}

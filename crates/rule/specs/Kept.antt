@@ -1,5 +1,4 @@
--- The kept path: which of the paths from an entrance to an exit is the best.
--- Assumes nothing.
+-- The kept path: which of the paths from an entrance to an exit is the best. Assumes nothing.
 use Prim.Native.Nat.{ℕ, _<_}
 use mathlib.Core.Path.{_≡_}
 use mathlib.Core.Logic.{_⊎_}

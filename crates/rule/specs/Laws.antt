@@ -1,5 +1,4 @@
--- The laws that a rule and a set of candidates must meet. Demand 3 holds for every rule and every set of candidates that do.
--- Assumes nothing.
+-- The laws that a rule and a set of candidates must meet. Demand 3 holds for every rule and every set of candidates that do. Assumes nothing.
 use Prim.Native.Nat.{ℕ, _≤_, _<_}
 use mathlib.Core.Path.{_≡_}
 use mathlib.Core.Logic.{_≢_, _↔_}

@@ -1,3 +1,4 @@
+-- The definitions of `rule`, in the order in which one reads them.
 pub mod Lists
 pub mod Kept
 pub mod Fold

@@ -1,5 +1,4 @@
--- What the fold rule speaks of: graphs and counts, listings, sums, and what follows what on a list.
--- Assumes nothing.
+-- What the fold rule speaks of: graphs and counts, listings, sums, and what follows what on a list. Assumes nothing.
 use Prim.Native.Nat.{ℕ, zero, suc, _+_, _<_}
 use mathlib.Core.Path.{_≡_}
 use mathlib.Core.Logic.{_↔_}

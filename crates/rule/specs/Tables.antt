@@ -1,5 +1,4 @@
--- The fold of a table with its counts: the fold of its graph, and as many vertices.
--- Assumes nothing.
+-- The fold of a table with its counts: the fold of its graph, and as many vertices. Assumes nothing.
 use Prim.Native.Nat.{ℕ}
 use mathlib.Core.Path.{_≡_}
 use mathlib.Core.List.{List, [], _∷_}

@@ -1,12 +1,17 @@
-pub mod AnswerLaws
-pub mod EndLaws
-pub mod Going
-pub mod InsideLaws
-pub mod OccurrenceLaws
+-- The laws of `search`, in the order in which one reads them.
+-- numbers and lists
 pub mod SumLaws
+pub mod OccurrenceLaws
 pub mod TallyLaws
-pub mod TurnLaws
-pub mod UndoLaws
-pub mod UnvisitedLaws
+-- one row is passed
 pub mod WaitLaws
 pub mod WalkLaws
+-- one vertex after another is visited, until the search ends and what it took is given back
+pub mod UnvisitedLaws
+pub mod Going
+pub mod TurnLaws
+pub mod EndLaws
+pub mod UndoLaws
+-- what the contract settles
+pub mod InsideLaws
+pub mod AnswerLaws

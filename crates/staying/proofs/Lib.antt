@@ -1,4 +1,5 @@
-pub mod Determined
-pub mod LaidRows
+-- The laws of `staying`, in the order in which one reads them.
 pub mod StayingLaws
+pub mod LaidRows
 pub mod TableLaws
+pub mod Determined

@@ -1,1 +1,2 @@
+-- The definitions of `staying`.
 pub mod Staying

@@ -1,5 +1,6 @@
-pub mod Accepted
-pub mod FrontLaws
+-- The laws of `table`, in the order in which one reads them.
 pub mod RowLaws
 pub mod SumLaws
+pub mod FrontLaws
 pub mod VerdictLaws
+pub mod Accepted

@@ -1,3 +1,4 @@
-pub mod Verdict
+-- The definitions of `table`, in the order in which one reads them.
 pub mod Table
+pub mod Verdict
 pub mod Numbers

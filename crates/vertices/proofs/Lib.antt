@@ -1,4 +1,5 @@
-pub mod BitLaws
+-- The laws of `vertices`, in the order in which one reads them.
 pub mod NumberLaws
+pub mod BitLaws
 pub mod SetLaws
 pub mod Determined

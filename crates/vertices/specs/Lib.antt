@@ -1,1 +1,2 @@
+-- The definitions of `vertices`.
 pub mod Vertices
