@@ -11,12 +11,12 @@ use Rattle.bubble.proofs.Pigeonhole.{Distinct, distinct-below, distinct
 use Rattle.bubble.proofs.Reflect.{Decides, decided, decides-if, decides-not, decides-and, member, decides-member, sift, in-sift, of-sift, distinct-sift}
 
 -- the steps from u that are not in seen
-unfoldable pub unseen : (ℕ → ℕ → Bool) → ℕ → ℕ → List ℕ → List ℕ
+unfoldable unseen : (ℕ → ℕ → Bool) → ℕ → ℕ → List ℕ → List ℕ
 unfolding sift member upto
 unseen r n u seen = sift (λ v. r u v && not (member v seen)) (upto n)
 
 -- follow at most k vertices of todo; seen is what todo was met with, and grows
-unfoldable pub explore : (ℕ → ℕ → Bool) → ℕ → ℕ → List ℕ → List ℕ → List ℕ
+unfoldable explore : (ℕ → ℕ → Bool) → ℕ → ℕ → List ℕ → List ℕ → List ℕ
 unfolding unseen
 explore r n zero todo seen = seen
 explore r n (suc k) [] seen = seen

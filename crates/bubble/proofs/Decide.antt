@@ -15,22 +15,22 @@ use Rattle.bubble.proofs.Reflect.{Decides, decided, decides-if, same-te
 use Rattle.bubble.proofs.Closure.{Any, closure, decides-closure}
 
 -- F s t, listed
-unfoldable pub forward-set : (ℕ → ℕ → Bool) → ℕ → ℕ → ℕ → List ℕ
+unfoldable forward-set : (ℕ → ℕ → Bool) → ℕ → ℕ → ℕ → List ℕ
 unfolding closure
 forward-set e n s t = s ∷ closure (λ u v. not (eqb u t) && e u v) n s
 
 -- B s t, listed
-unfoldable pub backward-set : (ℕ → ℕ → Bool) → ℕ → ℕ → ℕ → List ℕ
+unfoldable backward-set : (ℕ → ℕ → Bool) → ℕ → ℕ → ℕ → List ℕ
 unfolding forward-set
 backward-set e n s t = forward-set (λ u v. e v u) n t s
 
 -- does no walk inside the listed vertices close
-unfoldable pub acyclic-test : (ℕ → ℕ → Bool) → ℕ → List ℕ → Bool
+unfoldable acyclic-test : (ℕ → ℕ → Bool) → ℕ → List ℕ → Bool
 unfolding every closure
 acyclic-test e n l = every (λ v. not (member v (closure (λ u w. member u l && (e u w && member w l)) n v))) l
 
 -- are F s t and B s t the same
-unfoldable pub match-test : (ℕ → ℕ → Bool) → ℕ → ℕ → ℕ → Bool
+unfoldable match-test : (ℕ → ℕ → Bool) → ℕ → ℕ → ℕ → Bool
 unfolding backward-set every
 match-test e n s t =
     let f = forward-set e n s t in
@@ -38,7 +38,7 @@ match-test e n s t =
     let back = every (λ v. member v f) b in
     every (λ v. member v b) f && back
 
-unfoldable pub bubbloid-test : (ℕ → ℕ → Bool) → ℕ → ℕ → ℕ → Bool
+unfoldable bubbloid-test : (ℕ → ℕ → Bool) → ℕ → ℕ → ℕ → Bool
 unfolding match-test acyclic-test
 bubbloid-test e n s t =
     let acyclic = acyclic-test e n (forward-set e n s t) in
@@ -46,7 +46,7 @@ bubbloid-test e n s t =
     not (eqb s t) && rest
 
 -- is s, x for no listed x other than t a bubbloid
-unfoldable pub minimal-test : (ℕ → ℕ → Bool) → ℕ → ℕ → ℕ → Bool
+unfoldable minimal-test : (ℕ → ℕ → Bool) → ℕ → ℕ → ℕ → Bool
 unfolding bubbloid-test
 minimal-test e n s t = every (λ x. let other = not (bubbloid-test e n s x) in eqb x t || other) (forward-set e n s t)
 
@@ -81,7 +81,7 @@ F-by-walk {E} {s} {t} = (⊎-elim (λ q. rw q start) to, back)
     back (on f n e) = inr (⊎-elim (λ q. edge tt (rw q at n, rw q at e) tt) (λ w. more w (n, e) tt) (back f))
 
 -- F is exactly what forward-set lists
-pub decides-F : {E : ℕ → ℕ → Type 0} {e : ℕ → ℕ → Bool} → ((u v : ℕ) → Decides (E u v) (e u v)) → (n : ℕ) → Below E n → (s t v : ℕ) → Decides (F E s t v) (member v (forward-set e n s t))
+decides-F : {E : ℕ → ℕ → Type 0} {e : ℕ → ℕ → Bool} → ((u v : ℕ) → Decides (E u v) (e u v)) → (n : ℕ) → Below E n → (s t v : ℕ) → Decides (F E s t v) (member v (forward-set e n s t))
 unfolding forward-set member
 decides-F d n below s t v =
     let walked = decides-closure (λ x y. decides-and (decides-not (decides-equal x t)) (d x y)) n (λ x y h. below x y (h .1) .1) s v in
@@ -89,7 +89,7 @@ decides-F d n below s t v =
 
 module _ {E : ℕ → ℕ → Type 0} {e : ℕ → ℕ → Bool} (d : (u v : ℕ) → Decides (E u v) (e u v)) (n : ℕ) (below : Below E n) where
   -- B is exactly what backward-set lists
-  pub decides-B : (s t v : ℕ) → Decides (B E s t v) (member v (backward-set e n s t))
+  decides-B : (s t v : ℕ) → Decides (B E s t v) (member v (backward-set e n s t))
   unfolding backward-set
   decides-B s t v = decides-if F-reversed (decides-F (λ x y. d y x) n (λ x y h. (below y x h .1, below y x h .0)) t s v)
 
@@ -119,7 +119,7 @@ module _ {E : ℕ → ℕ → Type 0} {e : ℕ → ℕ → Bool} (d : (u v : ℕ
   unfolding acyclic-test
   decides-acyclic s t = decides-every (λ v. decides-not (decides-cycle s t v)) (forward-set e n s t)
 
-  pub decides-bubbloid : (s t : ℕ) → Decides (Bubbloid E s t) (bubbloid-test e n s t)
+  decides-bubbloid : (s t : ℕ) → Decides (Bubbloid E s t) (bubbloid-test e n s t)
   unfolding bubbloid-test
   decides-bubbloid s t = decides-if (to, back) (decides-and (decides-not (decides-equal s t)) (decides-and (decides-matched s t) (decides-acyclic s t)))
     where
@@ -156,12 +156,6 @@ module _ {E : ℕ → ℕ → Type 0} (decide : (u v : ℕ) → Dec (E u v)) (n 
 
   pub F-decided : (s t v : ℕ) → Dec (F E s t v)
   F-decided s t v = decided (decides-F tested n below s t v)
-
-  pub B-decided : (s t v : ℕ) → Dec (B E s t v)
-  B-decided s t v = decided (decides-B tested n below s t v)
-
-  pub bubbloid-decided : (s t : ℕ) → Dec (Bubbloid E s t)
-  bubbloid-decided s t = decided (decides-bubbloid tested n below s t)
 
   pub superbubble-decided : (s t : ℕ) → Dec (Superbubble E s t)
   superbubble-decided s t = decided (decides-superbubble tested n below s t)

@@ -1,10 +1,10 @@
 -- The facts of a bubbloid with entrance s, exit t and set U = F s t: first by entrance, then their twins by exit, in the graph turned round. Assumes nothing.
 use Prim.Native.Nat.{ℕ}
 use mathlib.Core.Path.{refl}
-use mathlib.Core.Logic.{_≢_, ⊎-elim}
-use Rattle.bubble.specs.Superbubble.{F, F.start, F.on, B, B.from, Walk, Bubbloid}
-use Rattle.bubble.proofs.Walks.{reaches-exit, F-walk, F-no-return}
-use Rattle.bubble.proofs.Reversal.{F-reversed, B-walk, inside-reversed, bubbloid-reversed}
+use mathlib.Core.Logic.{_≢_}
+use Rattle.bubble.specs.Superbubble.{F, F.start, F.on, B, B.from, Bubbloid}
+use Rattle.bubble.proofs.Walks.{reaches-exit, F-no-return}
+use Rattle.bubble.proofs.Reversal.{F-reversed, inside-reversed, bubbloid-reversed}
 
 -- the last edge of a path that is not empty
 pub last-edge : {E : ℕ → ℕ → Type 0} {s t v : ℕ} → F E s t v → v ≢ s → (u : ℕ) × F E s t u × (u ≢ t) × E u v
@@ -19,16 +19,9 @@ module _ {E : ℕ → ℕ → Type 0} {s t : ℕ} (b : Bubbloid E s t) where
   pub exit-inside : F E s t t
   exit-inside = reaches-exit .0 (b .reachability)
 
-  -- an edge out of U leaves from the exit
-  pub closed-forward : {u v : ℕ} → F E s t u → u ≢ t → E u v → F E s t v
-  closed-forward = on
-
   -- an edge into U comes to the entrance
   pub closed-backward : {u v : ℕ} → F E s t v → v ≢ s → E u v → F E s t u
   closed-backward {u} {v} f n e = b .matching u .1 (from e n (b .matching v .0 f))
-
-  pub walk-from-entrance : {v : ℕ} → F E s t v → v ≢ s → Walk E (F E s t) s v
-  walk-from-entrance f n = ⊎-elim (λ q. absurd (n q)) (λ w. w) (F-walk (λ x g. g) f)
 
   pub no-edge-to-entrance : {u : ℕ} → F E s t u → E u s → ⊥
   no-edge-to-entrance = F-no-return (λ x f. f) (b .acyclicity)
@@ -38,9 +31,6 @@ module _ {E : ℕ → ℕ → Type 0} {s t : ℕ} (b : Bubbloid E s t) where
 
 -- the twins, by exit
 module _ {E : ℕ → ℕ → Type 0} {s t : ℕ} (b : Bubbloid E s t) where
-  pub walk-to-exit : {u : ℕ} → F E s t u → u ≢ t → Walk E (F E s t) u t
-  walk-to-exit {u} f n = ⊎-elim (λ q. absurd (n q)) (λ w. w) (B-walk (λ x. b .matching x .1) (b .matching u .0 f))
-
   pub no-edge-from-exit : {v : ℕ} → F E s t v → E t v → ⊥
   no-edge-from-exit f = no-edge-to-entrance (bubbloid-reversed .0 b) (inside-reversed b .0 f)
 

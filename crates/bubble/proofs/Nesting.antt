@@ -60,7 +60,7 @@ module _ {E : ℕ → ℕ → Type 0} {s t x y : ℕ} where
 
 module _ {E : ℕ → ℕ → Type 0} {s t x y : ℕ} (p : Superbubble E s t) (q : Superbubble E x y) (different : s ≢ x) where
   -- where a vertex is interior to one and in the other, an entrance is interior to the other one
-  pub meets : {v : ℕ} → Interior E s t v → F E x y v → Interior E x y s ⊎ Interior E s t x
+  meets : {v : ℕ} → Interior E s t v → F E x y v → Interior E x y s ⊎ Interior E s t x
   meets i f = ⊎-map one other (passes (p .bubbloid) i f)
     where
       one : F E x y s × (s ≢ y) → Interior E x y s

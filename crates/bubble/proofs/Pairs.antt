@@ -3,7 +3,7 @@ use Prim.Native.Nat.{ℕ}
 use mathlib.Core.Path.{sym}
 use mathlib.Core.Logic.{_≢_, _↔_}
 use native.Mathlib.Decide.{ℕ-discrete}
-use Rattle.bubble.specs.Superbubble.{F, F.start, F.on, B, B.end, B.from, Bubbloid, Interior}
+use Rattle.bubble.specs.Superbubble.{F, F.start, F.on, B, B.end, B.from, Bubbloid}
 use Rattle.bubble.proofs.Walks.{walk-widen, F-no-return, F-onward, F-within}
 use Rattle.bubble.proofs.Reversal.{F-reversed, B-reversed, B-no-return, B-onward, inside-reversed, bubbloid-reversed}
 use Rattle.bubble.proofs.Facts.{last-edge, first-edge, exit-inside, closed-backward, no-edge-to-entrance, no-edge-from-exit}
@@ -27,7 +27,7 @@ module _ {E : ℕ → ℕ → Type 0} {s t m : ℕ} (b : Bubbloid E s t) (inside
       ]
 
   -- a vertex of U other than s and t forms with s a bubbloid exactly if t cannot be reached without it
-  pub cut : m ≢ s → m ≢ t → Bubbloid E s m ↔ (F E s m t → ⊥)
+  cut : m ≢ s → m ≢ t → Bubbloid E s m ↔ (F E s m t → ⊥)
   cut n k = (out, back)
     where
       out : Bubbloid E s m → F E s m t → ⊥
@@ -68,7 +68,3 @@ cross {E} {s} {t} {x} {y} b c f g n = make n (λ v. cross-forward c f) back (λ 
   where
     back : (v : ℕ) → B E s y v → F E s y v
     back v h = B-reversed .0 (cross-forward (bubbloid-reversed .0 b) (inside-reversed b .0 g) (F-reversed .1 h))
-
--- of bubbloids s, t and x, y that overlap, s interior to the second and y to the first, the pair s, y is one
-pub overlap : {E : ℕ → ℕ → Type 0} {s t x y : ℕ} → Bubbloid E s t → Bubbloid E x y → Interior E x y s → Interior E s t y → Bubbloid E s y
-overlap b c i j = cross b c (i .inside) (j .inside) (i .not-exit)

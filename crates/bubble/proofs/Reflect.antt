@@ -20,10 +20,6 @@ decided (fails n) = no n
 pub proved : {P : Type 0} → Decides P true → P
 proved (holds p) = p
 
--- a test that computes to false is a refutation
-pub refuted : {P : Type 0} → Decides P false → P → ⊥
-refuted (fails n) = n
-
 pub decides-if : {P Q : Type 0} {b : Bool} → P ↔ Q → Decides P b → Decides Q b
 decides-if h (holds p) = holds (h .0 p)
 decides-if h (fails n) = fails (λ q. n (h .1 q))

@@ -1,9 +1,9 @@
 -- Turning a graph round: F becomes B, and a bubbloid a bubbloid with entrance and exit changed over. Assumes nothing.
 use Prim.Native.Nat.{ℕ}
-use mathlib.Core.Path.{_≡_, sym}
-use mathlib.Core.Logic.{_↔_, _⊎_, ⊎-map}
+use mathlib.Core.Path.{sym}
+use mathlib.Core.Logic.{_↔_}
 use Rattle.bubble.specs.Superbubble.{Reaches, Reaches.none, Reaches.then, F, F.start, F.on, B, B.end, B.from, Walk, Walk.edge, Walk.more, Bubbloid}
-use Rattle.bubble.proofs.Walks.{walk-before, walk-widen, reaches-before, F-reaches, reaches-exit, F-walk, F-no-return, F-onward}
+use Rattle.bubble.proofs.Walks.{walk-before, walk-widen, reaches-before, F-reaches, F-no-return, F-onward}
 
 -- the graph turned round
 abbrev pub rev : (ℕ → ℕ → Type 0) → ℕ → ℕ → Type 0
@@ -18,7 +18,7 @@ module _ {E : ℕ → ℕ → Type 0} where
   to-forward end = start
   to-forward (from e n b) = on (to-forward b) n e
 
-  pub walk-reversed : {P : ℕ → Type 0} {u v : ℕ} → Walk E P u v → Walk (rev E) P v u
+  walk-reversed : {P : ℕ → Type 0} {u v : ℕ} → Walk E P u v → Walk (rev E) P v u
   walk-reversed (edge p e q) = edge q e p
   walk-reversed (more w e q) = walk-before q e (walk-reversed w)
 
@@ -34,14 +34,6 @@ B-reversed = (to-forward, to-backward)
 
 pub B-reaches : {E : ℕ → ℕ → Type 0} {s t v : ℕ} → B E s t v → Reaches E v t
 B-reaches b = reaches-reversed (F-reaches (F-reversed .1 b))
-
--- t is reachable from s exactly if s is in B
-pub reaches-entrance : {E : ℕ → ℕ → Type 0} {s t : ℕ} → Reaches E s t ↔ B E s t s
-reaches-entrance = (λ r. F-reversed .0 (reaches-exit .0 (reaches-reversed r)), B-reaches)
-
--- a path to t is empty, or a walk inside every set that holds B
-pub B-walk : {E : ℕ → ℕ → Type 0} {s t v : ℕ} {P : ℕ → Type 0} → ((x : ℕ) → B E s t x → P x) → B E s t v → (v ≡ t) ⊎ Walk E P v t
-B-walk h b = ⊎-map (λ q. q) walk-reversed (F-walk (λ x f. h x (F-reversed .0 f)) (F-reversed .1 b))
 
 -- where a set that holds B has no cycle, no edge leads from t back into B
 pub B-no-return : {E : ℕ → ℕ → Type 0} {s t v : ℕ} {P : ℕ → Type 0} → ((x : ℕ) → B E s t x → P x) → ((x : ℕ) → Walk E P x x → ⊥) → B E s t v → E t v → ⊥

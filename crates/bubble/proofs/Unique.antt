@@ -43,7 +43,3 @@ exit-unique {E} {s} {t} {t′} p q =
 
 pub entrance-unique : {E : ℕ → ℕ → Type 0} {s s′ t : ℕ} → Superbubble E s t → Superbubble E s′ t → s ≡ s′
 entrance-unique p q = exit-unique (superbubble-reversed .0 p) (superbubble-reversed .0 q)
-
--- different superbubbles have different entrances
-pub entrances-differ : {E : ℕ → ℕ → Type 0} {s t s′ t′ : ℕ} → Superbubble E s t → Superbubble E s′ t′ → (s ≡ s′ → t ≡ t′ → ⊥) → s ≢ s′
-entrances-differ p q h e = h e (exit-unique p (rw (← e) at q))

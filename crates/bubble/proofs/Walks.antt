@@ -33,7 +33,7 @@ module _ {E : ℕ → ℕ → Type 0} where
   F-reaches (on f n e) = then (F-reaches f) e
 
   -- a path from s to v has t nowhere but at the last place, or can be cut at its first t
-  pub reaches-cut : {s v : ℕ} (t : ℕ) → Reaches E s v → F E s t v ⊎ F E s t t
+  reaches-cut : {s v : ℕ} (t : ℕ) → Reaches E s v → F E s t v ⊎ F E s t t
   reaches-cut t none = inl start
   reaches-cut t (then {u = u} r e) = ⊎-elim (λ f. elim (ℕ-discrete u t) [ yes q ↦ inr (rw q at f) | no n ↦ inl (on f n e) ]) inr (reaches-cut t r)
 

@@ -1,17 +1,13 @@
 -- Laws of the entrances: one vertex more, as a caller meets them who goes over the vertices in turn; and that they are listed. Assumes nothing.
 use Prim.Native.Nat.{ℕ, zero, suc, _+_, _-_, _≤_, _<_}
-use mathlib.Core.Path.{_≡_, refl, sym, ap, _∙_}
+use mathlib.Core.Path.{_≡_, refl, ap, _∙_}
 use mathlib.Core.Logic.{⊎-elim}
-use mathlib.Core.Bool.{cond}
-use mathlib.Core.List.{List, [], _∷_, _++_, append-nil, append-assoc, List·Memᴰ, List·Memᴰ·head, List·Memᴰ·tail, List·Memᴰ·not-nil, List·Memᴰ·eq-of-singleton, List·Memᴰ·append-cases, Memᴰ·append-left, Memᴰ·append-right}
-use native.Mathlib.Nat.{add-zero}
+use mathlib.Core.List.{List, [], _∷_, _++_, append-nil, List·Memᴰ, List·Memᴰ·head, List·Memᴰ·tail, List·Memᴰ·not-nil, List·Memᴰ·eq-of-singleton, List·Memᴰ·append-cases, Memᴰ·append-left, Memᴰ·append-right}
 use native.Mathlib.Numerals.{add-one}
 use native.Mathlib.Omega.{arith}
 use native.Mathlib.Decide.{ℕ-discrete, decLt}
 use borrow.Author.Tests.{lt-ltb, le-ltb}
-use lib.ListN.{length, getD, take, length-append}
-use lib.Dec.{ltb}
-use lib.Seq.{take-append-seam, take-append-le}
+use lib.ListN.{length, getD, length-append}
 use Rattle.rule.specs.Lists.{Rising, Rising.empty, Rising.first, Listing}
 use Rattle.rule.proofs.Listings.{listing-same}
 use Rattle.candidates.specs.Candidates.{entrances-below, entrances}
@@ -29,25 +25,6 @@ count-more exits s h = ap length (entrance-more exits s h) ∙ length-append (en
 
 pub count-none : (exits : List ℕ) (s : ℕ) → length exits ≤ getD exits s 0 → length (entrances-below exits (s + 1)) ≡ length (entrances-below exits s)
 count-none exits s h = ap length (entrance-none exits s h)
-
--- those below s come first
-begin : (exits : List ℕ) (s steps : ℕ) → (rest : List ℕ) × (entrances-below exits (s + steps) ≡ entrances-below exits s ++ rest)
-begin exits s zero = ([], rw (add-zero s) (sym (append-nil (entrances-below exits s))))
-begin exits s (suc steps) =
-    let (rest, q) = begin exits s steps in
-    let last = cond (ltb (getD exits (s + steps) 0) (length exits)) ((s + steps) ∷ []) [] in
-    let next : s + suc steps ≡ suc (s + steps) = omega arith in
-    (rest ++ last, rw (next, q) (append-assoc (entrances-below exits s) rest last))
-
-pub entrances-first : (exits : List ℕ) (s : ℕ) → s ≤ length exits → take (length (entrances-below exits s)) (entrances exits) ≡ entrances-below exits s
-entrances-first exits s h =
-    let (rest, q) = begin exits s (length exits - s) in
-    let all : s + (length exits - s) ≡ length exits = omega arith in
-    rw (rw all at q) (take-append-seam (entrances-below exits s) rest)
-
--- where there are enough, one vertex more changes nothing
-pub entrances-enough : (exits : List ℕ) (budget s : ℕ) → budget ≤ length (entrances-below exits s) → take budget (entrances-below exits (s + 1)) ≡ take budget (entrances-below exits s)
-entrances-enough exits budget s h = rw (add-one s) (take-append-le budget (entrances-below exits s) _ h)
 
 -- a vertex that has an exit and is below s
 abbrev pub HasExit : List ℕ → ℕ → ℕ → Type 0

@@ -6,11 +6,10 @@ use native.Mathlib.Omega.{arith}
 use native.Mathlib.Decide.{decLt}
 use lib.ListN.{length, getD}
 use lib.Seq.{ext-getD}
-use Rattle.table.specs.Table.{vertices, Edge, WellFormed}
+use Rattle.table.specs.Table.{vertices, Edge}
 use Rattle.bubble.specs.Superbubble.{F.start}
 use Rattle.bubble.proofs.Facts.{successor}
 use Rattle.bubble.proofs.Unique.{exit-unique}
-use Rattle.search.specs.Search.{Searchable}
 use Rattle.search.proofs.TallyLaws.{parents-same}
 use Rattle.rule.specs.Lists.{Listing}
 use Rattle.rule.specs.Fold.{Candidate, Entrance}
@@ -20,14 +19,14 @@ use Rattle.candidates.proofs.EntranceLaws.{HasExit, entrances-are}
 
 module _ {starts targets exits : List ℕ} {found : ℕ} (f : CandidatesFound starts targets exits found) where
   -- an entrance of a candidate has its exit noted
-  pub exit-is-vertex : {s t : ℕ} → Candidate (Edge starts targets) s t → (s < vertices starts) × (getD exits s 0 < vertices starts)
+  exit-is-vertex : {s t : ℕ} → Candidate (Edge starts targets) s t → (s < vertices starts) × (getD exits s 0 < vertices starts)
   exit-is-vertex {s} {t} c =
       let p = c .outermost .superbubble .bubbloid in
       let (v, g, e) = successor p start (p .distinct) in
       let h : s < vertices starts = e .vertex in
       elim (decLt (getD exits s 0) (vertices starts)) [ yes l ↦ (h, l) | no n ↦ absurd (f .none s h (omega arith) t c) ]
 
-  pub exit-noted : {s t : ℕ} → Candidate (Edge starts targets) s t → getD exits s 0 ≡ t
+  exit-noted : {s t : ℕ} → Candidate (Edge starts targets) s t → getD exits s 0 ≡ t
   exit-noted {s} c = let (h, l) = exit-is-vertex c in exit-unique (f .sound s h l .outermost .superbubble) (c .outermost .superbubble)
 
   -- the entrances are those of the candidates
@@ -40,13 +39,8 @@ module _ {starts targets exits : List ℕ} {found : ℕ} (f : CandidatesFound st
       back : (v : ℕ) → Entrance Candidate (Edge starts targets) v → HasExit exits (length exits) v
       back v e = rw (f .each) (exit-is-vertex (e .1))
 
--- the search can go on from each vertex
-pub found-searchable : {starts targets parents left order exits : List ℕ} {found s : ℕ} → WellFormed starts targets → Found starts targets parents left order exits found
-    → s < vertices starts → Searchable starts targets parents left order s
-found-searchable ok f h = record { well-formed = ok; vertex = h; counted = f .counted; whole = f .whole; room = omega (arith, f .room) }
-
 -- what is found is determined
-pub exits-determined : {starts targets exits exits′ : List ℕ} {found found′ : ℕ} → CandidatesFound starts targets exits found → CandidatesFound starts targets exits′ found′
+exits-determined : {starts targets exits exits′ : List ℕ} {found found′ : ℕ} → CandidatesFound starts targets exits found → CandidatesFound starts targets exits′ found′
     → (exits ≡ exits′) × (found ≡ found′)
 exits-determined {starts} {targets} {exits} {exits′} a b = (same, a .number ∙ ap (λ l. length (entrances l)) same ∙ sym (b .number))
   where

@@ -31,7 +31,7 @@ use Rattle.folding.proofs.TurnLaws.{turns-none, folded-number}
 module _ (starts targets counts exits next out : List ℕ) (budget folded found : ℕ) (ok : Counted starts targets counts) (acyclic : NoCycle (Edge starts targets))
     (candidates : CandidatesFound starts targets exits found) (turns : Turns starts targets counts exits next out budget (vertices starts) folded) where
   -- where one edge stays, it is an edge
-  pub one-stays : (v : ℕ) → v < vertices starts → getD next v 0 < vertices starts → Edge starts targets v (getD next v 0)
+  one-stays : (v : ℕ) → v < vertices starts → getD next v 0 < vertices starts → Edge starts targets v (getD next v 0)
   one-stays v h l =
       let (i, m, f) = turns .numbered v h .one l in
       row-next candidate-laws first-takes-all-laws acyclic (turns .fit) i m v (getD next v 0) f (getD next v 0) .1 refl .0

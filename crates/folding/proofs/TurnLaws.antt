@@ -1,15 +1,15 @@
 -- The loop over the entrances: what holds after each of them, where the first candidates, as many as the budget, are folded. Assumes nothing.
 use Prim.Native.Nat.{ℕ, zero, suc, _+_, _≤_, _<_}
 use mathlib.Core.Path.{_≡_, refl, sym, ap, _∙_}
-use mathlib.Core.Logic.{_≢_, _↔_, _⊎_, inl, inr, ⊎-elim}
+use mathlib.Core.Logic.{_⊎_, inl, inr, ⊎-elim}
 use mathlib.Core.Bool.{Bool, true, false, cond}
-use mathlib.Core.List.{List, [], _∷_, _++_, map, map-append, List·Memᴰ, List·Memᴰ·head, List·Memᴰ·tail, List·Memᴰ·not-nil, List·Memᴰ·cases-cons, List·Memᴰ·append-cases, List·Memᴰ·eq-of-singleton, Memᴰ·append-left, Memᴰ·append-right, Memᴰ·map}
+use mathlib.Core.List.{List, [], _∷_, _++_, map-append, List·Memᴰ, List·Memᴰ·head, List·Memᴰ·tail, List·Memᴰ·not-nil, List·Memᴰ·cases-cons, List·Memᴰ·append-cases, List·Memᴰ·eq-of-singleton, Memᴰ·append-left, Memᴰ·append-right, Memᴰ·map}
 use native.Mathlib.Decide.{ℕ-discrete}
 use native.Mathlib.Omega.{arith}
 use lib.Dec.{ltb}
 use lib.ListN.{length, getD, take, length-take, length-append, length-map}
 use lib.Seq.{take-all, take-append-le}
-use Rattle.table.specs.Table.{vertices, In, Edge, Counted}
+use Rattle.table.specs.Table.{vertices, Edge, Counted}
 use Rattle.bubble.specs.Superbubble.{F, Interior}
 use Rattle.bubble.proofs.Facts.{exit-inside}
 use Rattle.search.proofs.InsideLaws.{inside-below}
@@ -23,7 +23,7 @@ use Rattle.rule.proofs.Candidates.{candidate-laws}
 use Rattle.rule.proofs.Following.{follows-head}
 use Rattle.rule.proofs.Listings.{getD-in}
 use Rattle.rule.proofs.ByNumber.{Numbered}
-use Rattle.candidates.specs.Candidates.{entrances-below, CandidatesFound}
+use Rattle.candidates.specs.Candidates.{entrances-below}
 use Rattle.candidates.proofs.EntranceLaws.{entrance-more, entrance-none}
 use Rattle.kept.specs.Keeping.{KeptDone}
 use Rattle.kept.proofs.DoneLaws.{followed-or-dropped}

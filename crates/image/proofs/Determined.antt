@@ -1,12 +1,10 @@
 -- Two results that a contract of the image allows coincide: number, fields and all memory lent. Assumes nothing.
 use Prim.Native.Nat.{ℕ}
-use mathlib.Core.Path.{_≡_, refl, sym, ap, _∙_}
+use mathlib.Core.Path.{_≡_, sym, _∙_}
 use mathlib.Core.List.{List, [], _∷_, _++_}
 use native.Mathlib.Decide.{ℕ-discrete}
-use lib.ListN.{drop}
 use Rattle.table.specs.Numbers.{countedDemands}
 use Rattle.table.proofs.VerdictLaws.{verdict-unique}
-use Rattle.image.specs.Image.{startsOf, targetsOf, countsOf, imageOf}
 use Rattle.image.specs.Contracts.{headerDemands, bodyDemands, readRoom, writeRoom, Read, Written}
 
 -- two readings of one image into slices that held the same

@@ -1,15 +1,14 @@
 -- Laws of the header: what is stored for it, and what is read from it. Assumes nothing.
 use Prim.Native.Nat.{ℕ, _+_, _*_, _≤_, _<_}
 use mathlib.Core.Path.{_≡_, refl, sym, ap, _∙_}
-use mathlib.Core.List.{List, [], _∷_, _++_}
+use mathlib.Core.List.{List, _∷_, _++_}
 use native.Mathlib.Omega.{arith}
-use lib.ListN.{length, getD, take, drop, set}
+use lib.ListN.{length, getD, take, set}
 use lib.Seq.{sets-eq, getD-take}
-use lib.Dec.{lit<}
 use Rattle.table.specs.Verdict.{Verdict}
 use Rattle.table.proofs.FrontLaws.{one-at}
 use Rattle.image.specs.Bytes.{valueOf, bytesOf, over}
-use Rattle.image.specs.Image.{mark, headerOf, versionOf, verticesOf, edgesOf}
+use Rattle.image.specs.Image.{mark, headerOf, versionOf}
 use Rattle.image.specs.Contracts.{headerDemands, HeaderJudged}
 use Rattle.image.proofs.ByteLaws.{over-over, over-length}
 

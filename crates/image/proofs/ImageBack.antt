@@ -1,14 +1,14 @@
 -- The table that stands in an accepted image is well-formed, and its image is that image. Assumes nothing.
 use Prim.Native.Nat.{ℕ, _+_, _*_, _-_, _≤_}
-use mathlib.Core.Path.{_≡_, refl, sym, ap, _∙_}
-use mathlib.Core.List.{List, [], _++_}
+use mathlib.Core.Path.{_≡_, sym, ap, _∙_}
+use mathlib.Core.List.{List, _++_}
 use native.Mathlib.Omega.{arith}
 use lib.ListN.{length, take, drop, length-drop}
 use lib.Seq.{take-add, take-all}
 use Rattle.table.specs.Table.{vertices, Below, Counted}
 use Rattle.table.proofs.VerdictLaws.{AllMet}
-use Rattle.image.specs.Bytes.{valueOf, bytesOf, numbersOf, spelled}
-use Rattle.image.specs.Image.{mark, imageLength, headerOf, imageOf, versionOf, verticesOf, edgesOf, startsOf, targetsOf, countsOf}
+use Rattle.image.specs.Bytes.{bytesOf, numbersOf, spelled}
+use Rattle.image.specs.Image.{imageLength, headerOf, imageOf, verticesOf, edgesOf, startsOf, targetsOf, countsOf}
 use Rattle.image.specs.Contracts.{headerDemands, bodyDemands}
 use Rattle.image.proofs.ByteLaws.{numbers-length}
 use Rattle.image.proofs.BackAndForth.{rest-below, bytes-of-front, spelled-of-numbers}

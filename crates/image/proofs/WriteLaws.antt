@@ -1,6 +1,6 @@
 -- Laws of writing: header, starts, targets and counts written one after the other are the image of the table. Assumes nothing.
 use Prim.Native.Nat.{ℕ, _+_, _*_, _≤_}
-use mathlib.Core.Path.{_≡_, refl, sym, ap, _∙_}
+use mathlib.Core.Path.{_≡_, refl, ap, _∙_}
 use mathlib.Core.Logic.{inl, inr}
 use mathlib.Core.List.{List, [], _∷_, _++_}
 use native.Mathlib.Omega.{arith}
@@ -9,11 +9,10 @@ use Rattle.table.specs.Verdict.{Verdict}
 use Rattle.table.specs.Table.{vertices}
 use Rattle.table.specs.Numbers.{countedDemands}
 use Rattle.table.proofs.VerdictLaws.{AllMet, accepted, goes-on, stops}
-use Rattle.table.proofs.Accepted.{counted-met}
 use Rattle.image.specs.Bytes.{spelled, over}
 use Rattle.image.specs.Image.{headerOf, imageLength, imageOf}
 use Rattle.image.specs.Contracts.{writeRoom, Written}
-use Rattle.image.proofs.ByteLaws.{spelled-length, over-over, over-length}
+use Rattle.image.proofs.ByteLaws.{spelled-length, over-over}
 
 module _ (starts targets counts : List ℕ) (some : length starts ≡ vertices starts + 1) (each : length counts ≡ vertices starts) where
   -- where the starts end, and where the targets do

@@ -1,7 +1,7 @@
 -- Numbers as little-endian bytes, and bytes as numbers. Assumes nothing.
-use Prim.Native.Nat.{ℕ, zero, suc, _+_, _*_, _/_, _%_, _<_}
+use Prim.Native.Nat.{ℕ, zero, suc, _+_, _*_, _/_, _%_}
 use mathlib.Core.List.{List, [], _∷_, _++_}
-use lib.ListN.{length, getD, take, drop}
+use lib.ListN.{length, take, drop}
 
 -- the number that these bytes spell, the lowest byte first
 abbrev pub valueOf : List ℕ → ℕ

@@ -1,6 +1,5 @@
 // Judges one pair of the table that stands in the image on standard input: `judge S T` prints `superbubble N` with N the vertices in U, or `no`, or `refused N`.
 ghost use Prim.Native.Nat.{_≤_};
-ghost use lib.ListN.{length};
 
 // One byte more than the largest image is read, so that a longer stream gets the number that its header earns.
 const MOST: usize = image::Header::LARGEST + 1;

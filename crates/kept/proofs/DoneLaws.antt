@@ -24,7 +24,7 @@ followed t {s} {v} (x ∷ l) m =
 
 module _ {starts targets counts : List ℕ} {s t : ℕ} {best next out best′ next′ out′ : List ℕ} (k : KeptDone starts targets counts s t best next out best′ next′ out′) where
   -- an interior vertex is on the arm or dropped
-  pub arm-or-dropped : {v : ℕ} → Interior (Edge starts targets) s t v → List·Memᴰ v (k .item .arm) ⊎ List·Memᴰ v (k .item .dropped)
+  arm-or-dropped : {v : ℕ} → Interior (Edge starts targets) s t v → List·Memᴰ v (k .item .arm) ⊎ List·Memᴰ v (k .item .dropped)
   arm-or-dropped {v} h = List·Memᴰ·append-cases (k .item .arm) (interior-listed candidate-laws first-takes-all-laws (k .fits) (rw (k .entrance, k .exit) h))
 
   pub followed-or-dropped : {v : ℕ} → F (Edge starts targets) s t v → v ≢ t → ((w : ℕ) × Follows (s ∷ k .item .arm ++ (t ∷ [])) v w) ⊎ List·Memᴰ v (k .item .dropped)

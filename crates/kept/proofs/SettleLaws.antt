@@ -51,7 +51,7 @@ settled-still {v = v} {next = next} o b n w = record {
 
 module _ {starts targets counts visited : List ℕ} {t : ℕ} {best₀ next₀ : List ℕ} (p : Settleable starts targets counts visited t best₀ next₀) where
   -- the counts from a place on have a sum that fits
-  pub order-sum : (k : ℕ) → sum (count-of counts) (drop k visited) ≤ 1099511627775
+  order-sum : (k : ℕ) → sum (count-of counts) (drop k visited) ≤ 1099511627775
   order-sum k =
       let all = distinct-sum counts (apart-distinct visited (p .order .apart)) (λ v m. let (i, l, q) = place-of m in omega (arith, q, visited-below (p .order) i l, p .counted .count-each)) in
       omega (arith, all, sum-later (count-of counts) visited 0 k (omega arith), p .counted .sum-fits)

@@ -1,7 +1,7 @@
 -- The vertices of U in a set: added one after the other, and counted. Assumes nothing.
-use Prim.Native.Nat.{ℕ, _+_, _≤_, _<_}
+use Prim.Native.Nat.{ℕ, _+_, _<_}
 use mathlib.Core.Path.{_≡_, refl, sym, _∙_}
-use mathlib.Core.Logic.{_↔_, _⊎_, inl, inr}
+use mathlib.Core.Logic.{_⊎_, inl, inr}
 use mathlib.Core.Bool.{Bool, true, false}
 use mathlib.Core.List.{List}
 use native.Mathlib.Decide.{ℕ-discrete}
@@ -71,7 +71,7 @@ counted-all n words words′ visited exit r all one size = numbers-same (size .n
     back v (inr e) = one .members v .1 (inr e)
 
 -- the visited and the exit are U
-pub visited-numbers : (starts targets order : List ℕ) (s t k r : ℕ) → Visited starts targets order s t k → Numbers (λ v. In v (take k order) ⊎ (v ≡ t)) r
+visited-numbers : (starts targets order : List ℕ) (s t k r : ℕ) → Visited starts targets order s t k → Numbers (λ v. In v (take k order) ⊎ (v ≡ t)) r
     → Numbers (F (Edge starts targets) s t) r
 visited-numbers starts targets order s t k r visited n = numbers-same n (λ v. (there v, back v))
   where

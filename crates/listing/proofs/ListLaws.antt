@@ -102,7 +102,7 @@ entrances-rise P pairs found l i (suc steps) h =
     let last : getD pairs (2 * (i + suc steps)) 0 < getD pairs (2 * (i + suc (suc steps))) 0 = rw next at (l .rising (i + suc steps) (omega arith)) in
     omega (arith, entrances-rise P pairs found l i steps (omega arith))
 
-pub entrances-in-order : (P : ℕ → ℕ → Type 0) (pairs : List ℕ) (found : ℕ) → Listed P pairs found → (i j : ℕ) → i < j → j < found → getD pairs (2 * i) 0 < getD pairs (2 * j) 0
+entrances-in-order : (P : ℕ → ℕ → Type 0) (pairs : List ℕ) (found : ℕ) → Listed P pairs found → (i j : ℕ) → i < j → j < found → getD pairs (2 * i) 0 < getD pairs (2 * j) 0
 entrances-in-order P pairs found l i j h k =
     let gap : i + suc (j - suc i) ≡ j = omega arith in
     rw gap at (entrances-rise P pairs found l i (j - suc i) (omega arith))

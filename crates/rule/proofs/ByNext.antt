@@ -67,13 +67,6 @@ abbrev pub Short : Graph → ℕ → ℕ → ℕ → Type 0
 Short E t zero v = ⊥
 Short E t (suc k) v = (u : ℕ) → E v u → u ≢ t → Short E t k u
 
--- so it is in a set U where each edge, but from t, leads to a later place of U, and no place is after m
-pub short-by-place : {E : Graph} {U : ℕ → Type 0} {t v : ℕ} (place : ℕ → ℕ) (m k : ℕ) → ((x : ℕ) → U x → place x ≤ m)
-    → ((x y : ℕ) → U x → x ≢ t → E x y → U y × (place x < place y))
-    → U v → v ≢ t → m < place v + k → Short E t k v
-short-by-place {v = v} place m zero b h p n g = let low = b v p in omega arith
-short-by-place {v = v} place m (suc k) b h p n g = λ u e q. let (r, rise) = h v u p n e in short-by-place place m k b h r q (omega arith)
-
 earlier-cases : {x y : ℕ} {l k : List ℕ} → Earlier (x ∷ l) (y ∷ k) → (x < y) ⊎ ((x ≡ y) × Earlier l k)
 earlier-cases (here h) = inl h
 earlier-cases (later e) = inr (refl, e)

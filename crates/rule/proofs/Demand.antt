@@ -38,23 +38,9 @@ module _ {G : Graph → Type 0} {C : CandidateSet} {R : Rule} (L : CandidateLaws
 -- document 01's fold
 module _ {E E′ : Graph} {c c′ : Counts} {budgets : List ℕ} (n : ℕ) (below : Below E n) (acyclic : NoCycle E)
     (turns : InTurn Candidate first-takes-all E c budgets E′ c′) where
-  -- For every list of one or more budgets, folding in turn, each on what the last left, gives the same edges and counts as one fold with their sum.
-  pub budgets-do-not-matter : {E″ : Graph} {c″ : Counts} {folded left : ℕ}
-      → Folded Candidate first-takes-all E c (budgets-sum budgets) E″ c″ folded left → Same E′ E″ c′ c″
-  budgets-do-not-matter = as-once candidate-laws first-takes-all-laws acyclic turns
-
-  -- The total of the counts never moves.
-  pub total-never-moves : total c′ n ≡ total c n
-  total-never-moves = total-stays candidate-laws first-takes-all-laws acyclic turns n below
-
   -- Once the budgets reach the number of outermost superbubbles with an interior of the first graph, no superbubble with an interior is left,
   pub none-with-interior : {l : List ℕ} → Listing (Entrance Candidate E) l → length l ≤ budgets-sum budgets → (s t : ℕ) → Superbubble E′ s t → (v : ℕ)
       → Interior E′ s t v → ⊥
   none-with-interior k h =
       let fewer : Below E′ n = λ u v e. below u v (in-turn-applied candidate-laws first-takes-all-laws acyclic turns .edges u v .0 e .0) in
       no-interior fewer (no-candidate candidate-laws first-takes-all-laws acyclic turns k h)
-
-  -- and a further fold with any budget gives back its input.
-  pub further-fold-changes-nothing : {l : List ℕ} → Listing (Entrance Candidate E) l → length l ≤ budgets-sum budgets
-      → {E″ : Graph} {c″ : Counts} {budget folded left : ℕ} → Folded Candidate first-takes-all E′ c′ budget E″ c″ folded left → Same E″ E′ c″ c′
-  further-fold-changes-nothing = gives-back candidate-laws first-takes-all-laws acyclic turns

@@ -13,11 +13,11 @@ pub record Picked (f : ℕ → ℕ) (P : ℕ → Type 0) (u : ℕ) : Type 0 wher
   pub largest : (v : ℕ) → P v → f v ≤ f u
   pub smallest : (v : ℕ) → P v → f v ≡ f u → u ≤ v
 
-pub picked-alone : (f : ℕ → ℕ) {P : ℕ → Type 0} {x : ℕ} → P x → ((v : ℕ) → P v → v ≡ x) → Picked f P x
+picked-alone : (f : ℕ → ℕ) {P : ℕ → Type 0} {x : ℕ} → P x → ((v : ℕ) → P v → v ≡ x) → Picked f P x
 picked-alone f {P} {x} p h = record { among = p; largest = λ v q. rw (h v q) (le-refl (f x)); smallest = λ v q e. omega (arith, h v q) }
 
 -- u is better than v, or as good
-abbrev pub AsGood : (ℕ → ℕ) → ℕ → ℕ → Type 0
+abbrev AsGood : (ℕ → ℕ) → ℕ → ℕ → Type 0
 AsGood f u v = (f v < f u) ⊎ ((f v ≡ f u) × (u ≤ v))
 
 one-as-good : (f : ℕ → ℕ) (u v : ℕ) → AsGood f u v ⊎ AsGood f v u
@@ -29,7 +29,7 @@ one-as-good f u v =
 
 -- one more number x is looked at: those with Q are x and those with P
 module _ {f : ℕ → ℕ} {P Q : ℕ → Type 0} {x u : ℕ} (only : (v : ℕ) → Q v → (v ≡ x) ⊎ P v) (p : Picked f P u) where
-  pub picked-new : Q x → AsGood f x u → Picked f Q x
+  picked-new : Q x → AsGood f x u → Picked f Q x
   picked-new q g = record { among = q; largest = largest; smallest = smallest }
     where
       largest : (v : ℕ) → Q v → f v ≤ f x
@@ -40,7 +40,7 @@ module _ {f : ℕ → ℕ} {P Q : ℕ → Type 0} {x u : ℕ} (only : (v : ℕ) 
           ⊎-elim (λ z. omega arith) (λ i. let h = p .largest v i in ⊎-elim (λ k. absurd (omega arith))
           (λ k. omega (arith, k .1, p .smallest v i (e ∙ sym (k .0)))) g) (only v r)
 
-  pub picked-old : Q u → AsGood f u x → Picked f Q u
+  picked-old : Q u → AsGood f u x → Picked f Q u
   picked-old q g = record { among = q; largest = largest; smallest = smallest }
     where
       largest : (v : ℕ) → Q v → f v ≤ f u

@@ -6,11 +6,11 @@ use lib.ListN.{length, take, drop, length-map, length-take}
 use Rattle.bubble.specs.Superbubble.{Interior}
 use Rattle.bubble.proofs.Pigeonhole.{Distinct}
 use Rattle.rule.specs.Lists.{Graph, CandidateSet, Counts, Listing}
-use Rattle.rule.specs.Fold.{Rule, Item, Entrance, Applied, Folded}
+use Rattle.rule.specs.Fold.{Rule, Item, Entrance, Applied}
 use Rattle.rule.specs.Laws.{RuleLaws, CandidateLaws}
 use Rattle.rule.proofs.Together.{entrances, Foldable, After, after}
 use Rattle.rule.proofs.Items.{item-arm}
-use Rattle.rule.proofs.Listings.{listing-unique, listing-same, listing-front, listing-rest}
+use Rattle.rule.proofs.Listings.{listing-same, listing-front, listing-rest}
 
 module _ {G : Graph → Type 0} {C : CandidateSet} {R : Rule} (L : CandidateLaws G C) (M : RuleLaws R) {E E′ : Graph} {c c′ : Counts} {b : ℕ} (g : G E)
     (a : Applied C R E c b E′ c′) where
@@ -42,9 +42,3 @@ module _ {G : Graph → Type 0} {C : CandidateSet} {R : Rule} (L : CandidateLaws
   -- as many are folded as the budget, or all if fewer
   pub items-number : length (a .items) ≡ min b (length (a .candidates))
   items-number = sym (length-map (a .items) (λ (i : Item). i .entrance)) ∙ ap length (a .first) ∙ length-take b (a .candidates)
-
--- what is returned as left is the number of the candidates after the first b: the new graph need not be searched
-pub left-number : {G : Graph → Type 0} {C : CandidateSet} {R : Rule} {E E′ : Graph} {c c′ : Counts} {b folded left : ℕ} → CandidateLaws G C
-    → RuleLaws R → G E → (f : Folded C R E c b E′ c′ folded left)
-    → left ≡ length (drop b (f .applied .candidates))
-left-number {b = b} L M g f = let (l, k, q) = f .remaining in q ∙ ap length (listing-unique k (remaining-listed L M g (f .applied)))

@@ -4,8 +4,7 @@ use mathlib.Core.Path.{_≡_, refl, sym, _∙_}
 use mathlib.Core.List.{List}
 use lib.ListN.{length}
 use Rattle.bubble.specs.Superbubble.{Interior, Superbubble}
-use Rattle.bubble.proofs.Number.{Below}
-use Rattle.table.specs.Table.{vertices, Edge, WellFormed, Counted, countSum}
+use Rattle.table.specs.Table.{vertices, Edge, Counted, countSum}
 use Rattle.table.proofs.RowLaws.{edges-below}
 use Rattle.rule.specs.Lists.{Graph, CandidateSet, Listing, total, Same}
 use Rattle.rule.specs.Fold.{Rule, NoCycle, Candidate, Entrance, first-takes-all, InTurn, InTurn.once, InTurn.then, budgets-sum}

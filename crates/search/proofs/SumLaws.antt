@@ -6,7 +6,7 @@ use native.Mathlib.Omega.{arith}
 use native.Mathlib.Decide.{ℕ-discrete, decLt}
 use Rattle.search.specs.Steps.{sum}
 
-pub sum-same : (n : ℕ) (f g : ℕ → ℕ) → ((u : ℕ) → u < n → f u ≡ g u) → sum n f ≡ sum n g
+sum-same : (n : ℕ) (f g : ℕ → ℕ) → ((u : ℕ) → u < n → f u ≡ g u) → sum n f ≡ sum n g
 sum-same zero f g h = refl
 sum-same (suc n) f g h = omega (arith, sum-same n f g (λ u l. h u (omega arith)), h n (omega arith))
 

@@ -6,10 +6,9 @@ use mathlib.Core.List.{List, []}
 use native.Mathlib.Numerals.{add-one}
 use native.Mathlib.Omega.{arith}
 use native.Mathlib.Decide.{decLt}
-use lib.ListN.{length, getD, take, drop, length-take}
-use lib.Seq.{getD-take, getD-drop, take-add, take-length}
-use Rattle.table.specs.Table.{vertices, row, In, Edge, Below, WellFormed}
-use Rattle.table.proofs.RowLaws.{row-lies}
+use lib.ListN.{length, getD, take, drop}
+use lib.Seq.{take-add, take-length}
+use Rattle.table.specs.Table.{vertices, row, In, Edge, WellFormed}
 use Rattle.search.specs.Search.{occurrences}
 use Rattle.search.specs.Steps.{sum, unless, unvisited}
 use Rattle.search.proofs.SumLaws.{sum-change, sum-term, sum-least, sum-some, sum-less, less-sum}
@@ -28,10 +27,10 @@ unless-least zero y = omega arith
 unless-least (suc x) y = omega arith
 
 module _ (starts targets : List ℕ) where
-  pub edge-occurs : {u v : ℕ} → Edge starts targets u v → 0 < occurrences v (row starts targets u)
+  edge-occurs : {u v : ℕ} → Edge starts targets u v → 0 < occurrences v (row starts targets u)
   edge-occurs {u} {v} e = in-occurs v (row starts targets u) (e .listed)
 
-  pub occurs-edge : {u v : ℕ} → u < vertices starts → 0 < occurrences v (row starts targets u) → Edge starts targets u v
+  occurs-edge : {u v : ℕ} → u < vertices starts → 0 < occurrences v (row starts targets u) → Edge starts targets u v
   occurs-edge {u} {v} l h = record { vertex = l; listed = occurs-in v (row starts targets u) h }
 
   -- where no edge comes from outside, each parent is visited

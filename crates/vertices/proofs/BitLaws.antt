@@ -52,7 +52,7 @@ power-only (suc j) (suc k) q =
 or-odd : (a b : ℕ) → bitOr a b % 2 ≡ max (a % 2) (b % 2)
 or-odd a b = omega (arith, or-step a b)
 
-pub bit-or : (a b k : ℕ) → bitAt (bitOr a b) k ≡ max (bitAt a k) (bitAt b k)
+bit-or : (a b k : ℕ) → bitAt (bitOr a b) k ≡ max (bitAt a k) (bitAt b k)
 bit-or a b k = ap (λ (x : ℕ). x % 2) (or-shr a b k) ∙ or-odd (a / 2 ^ k) (b / 2 ^ k)
 
 pub or-has : (a b k : ℕ) → (bitAt (bitOr a b) k ≡ 1) ↔ ((bitAt a k ≡ 1) ⊎ (bitAt b k ≡ 1))

@@ -52,10 +52,10 @@ module _ {P : ℕ → Type 0} {k : ℕ} where
         exactly = λ v. (λ (r : In v l). h v .0 (at-place l (r .place) (r .inside) (r .stands)), λ p. place-of (h v .1 p));
       }
 
-  pub numbers-distinct : (n : Numbers P k) → Distinct (n .listed)
+  numbers-distinct : (n : Numbers P k) → Distinct (n .listed)
   numbers-distinct n = apart-distinct (n .listed) (λ i j a b e. n .apart i j (omega (arith, n .many)) (omega (arith, n .many)) e)
 
-  pub numbers-exactly : (n : Numbers P k) (v : ℕ) → List·Memᴰ v (n .listed) ↔ P v
+  numbers-exactly : (n : Numbers P k) (v : ℕ) → List·Memᴰ v (n .listed) ↔ P v
   numbers-exactly n v =
       (λ m. n .exactly v .0 (place-of m), λ p. let r = n .exactly v .1 p in at-place (n .listed) (r .place) (r .inside) (r .stands))
 
@@ -70,7 +70,7 @@ module _ {P : ℕ → Type 0} {k : ℕ} where
       }
 
 -- what holds wherever P does holds of as many or more
-pub numbers-most : {P Q : ℕ → Type 0} {k l : ℕ} → Numbers P k → Numbers Q l → ((v : ℕ) → P v → Q v) → k ≤ l
+numbers-most : {P Q : ℕ → Type 0} {k l : ℕ} → Numbers P k → Numbers Q l → ((v : ℕ) → P v → Q v) → k ≤ l
 numbers-most n m h =
     omega (
       arith,

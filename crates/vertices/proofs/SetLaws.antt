@@ -9,13 +9,13 @@ use native.Mathlib.Numerals.{add-one}
 use lib.Pow.{shl-exact}
 use lib.Bits.{bitOr, or-lt}
 use lib.Count.{ones, ones-le}
-use lib.ListN.{length, getD, set, take, replicate, length-replicate, length-set, List·getD-eq-default}
+use lib.ListN.{length, getD, set, take, replicate, length-replicate, length-set}
 use lib.Seq.{take-all, getD-set-same, getD-set-other}
 use Rattle.table.specs.Table.{Below}
 use Rattle.bubble.proofs.Pigeonhole.{Distinct}
 use Rattle.vertices.specs.Vertices.{bitAt, Member, onesOf, Numbers, Words, Added, Size}
 use Rattle.vertices.proofs.BitLaws.{bit-of-zero, bit-below, power-has, power-only, or-has, bits-numbered}
-use Rattle.vertices.proofs.NumberLaws.{numbers-of, numbers-same, numbers-joined}
+use Rattle.vertices.proofs.NumberLaws.{numbers-of, numbers-joined}
 
 -- ---- the empty set
 
@@ -133,21 +133,6 @@ members-numbered (w ∷ words) h =
     let first : w < 2 ^ 64 = h zero (omega arith) in
     numbers-joined (λ u. 64 + u) (bits-numbered 64 w first) (members-numbered words (λ k g. h (suc k) (omega arith))) (λ a b q. omega arith)
     (λ u q p. omega (arith, bit-below 64 w (64 + u) first p)) (λ v. by-word w words v first)
-
--- a member is below 2,048
-pub member-below : {words : List ℕ} {v : ℕ} → Words words → Member words v → v < 2048
-member-below {words} {v} sound m = elim (decLt v 2048) [
-  | yes l ↦ l
-  | no n ↦
-      let out : getD words (v / 64) 0 ≡ 0 = List·getD-eq-default words 0 (omega (arith, sound .many)) in
-      let none : bitAt (getD words (v / 64) 0) (v % 64) ≡ 0 = rw out (bit-of-zero (v % 64)) in
-      absurd (omega arith)
-]
-
--- the sum of ones is the number of members
-pub size-is : {words : List ℕ} → Words words → Numbers (λ v. (v < 2048) × Member words v) (onesOf words)
-size-is {words} sound =
-    numbers-same (members-numbered words (sound .each)) (λ v. (λ m. (member-below sound m, m), λ p. p .1))
 
 -- the sum over all 32 words is the size
 pub summed : (words : List ℕ) → Words words → (r : ℕ) → r ≡ onesOf (take 32 words) → Size words r

@@ -4,7 +4,6 @@ use mathlib.Core.Path.{_≡_, refl, sym, ap, _∙_}
 use native.Mathlib.Omega.{arith}
 use lib.ListN.{length}
 use Rattle.folding.specs.Turns.{Turning}
-use borrow.Author.Needs.{needs}
 use Rattle.folding.proofs.turns.fold_all.Statement.{statement}
 use Rattle.folding.proofs.turns.fold_all.Tie as tie
 

@@ -1,7 +1,7 @@
 -- `table::checks::all_below` meets its contract. The loop's invariant: each number passed is below n. Assumes nothing.
 use borrow.Author.Count.{below-more}
 use native.Mathlib.Omega.{arith}
-use Prim.Native.Nat.{ℕ, _+_, _-_, _≤_, _<_}
+use Prim.Native.Nat.{ℕ, _-_, _≤_, _<_}
 use lib.ListN.{length, getD}
 use borrow.Author.Needs.{needs}
 use Rattle.table.proofs.checks.all_below.Statement.{statement}
