@@ -4,23 +4,12 @@ ghost use Prim.Native.Nat.{_+_, _<_};
 ghost use mathlib.Core.Path.{_≡_};
 ghost use lib.ListN.{length};
 ghost use Rattle.table.specs.Table.{vertices, Below};
-ghost use Rattle.search.specs.Steps.{Zeros};
 ghost use Rattle.candidates.specs.Candidates.{entrances, Findable, Found};
 ghost use Rattle.candidates.specs.Steps.{RuledOut, Settling, Settled, Notable, Noted, Scan};
 use search::Exit;
+use search::clear;
 use search::count_parents;
 use search::search;
-
-// Sets each number to 0.
-fn clear(exits: &mut [u32])
-    ensures { λ r. ⌜ Zeros (now (exits .entry)) (now (exits .exit)) ⌝ }
-{
-    let mut v = 0;
-    while v < exits.len() {
-        exits[v] = 0;
-        v += 1;
-    }
-}
 
 // Gives each of the vertices the mark for none.
 fn rule_out(interior: &[u32], exits: &mut [u32], none: u32)

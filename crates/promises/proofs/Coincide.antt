@@ -15,7 +15,8 @@ use Rattle.vertices.specs.Vertices.{Added, Size}
 use Rattle.vertices.proofs.Determined.{put-determined}
 use Rattle.search.specs.declared.Exit.{Exit}
 use Rattle.search.specs.Search.{Parents, Visited, Sought}
-use Rattle.search.proofs.TallyLaws.{parents-same}
+use Rattle.search.specs.Steps.{Zeros}
+use Rattle.search.proofs.TallyLaws.{zeros-same, parents-same}
 use Rattle.search.proofs.AnswerLaws.{shown, answer-unique}
 use Rattle.cycle.specs.Cycle.{Cyclic}
 use Rattle.listing.specs.Listing.{ListDone, JudgeDone}
@@ -71,6 +72,10 @@ put-coincides = put-determined
 -- `vertices::size`
 pub size-coincides : {words : List ℕ} {r₁ r₂ : ℕ} → Size words r₁ → Size words r₂ → r₁ ≡ r₂
 size-coincides a b = a .sum ∙ sym (b .sum)
+
+-- `search::clear`
+pub clear-coincides : {counts counts₁ counts₂ : List ℕ} → Zeros counts counts₁ → Zeros counts counts₂ → counts₁ ≡ counts₂
+clear-coincides = zeros-same
 
 -- `search::count_parents`
 pub parents-coincide : {n : ℕ} {targets parents₁ parents₂ : List ℕ} → Parents n targets parents₁ → Parents n targets parents₂ → parents₁ ≡ parents₂

@@ -18,6 +18,10 @@ all-zeros counts counts′ q h = record {
   zeros = λ k. elim (decLt k (length counts′)) [ yes l ↦ h k l | no n ↦ List·getD-eq-default counts′ 0 (omega arith) ];
 }
 
+-- two such lists are the same
+pub zeros-same : {counts counts₁ counts₂ : List ℕ} → Zeros counts counts₁ → Zeros counts counts₂ → counts₁ ≡ counts₂
+zeros-same {counts₁ = counts₁} {counts₂ = counts₂} a b = ext-getD 0 counts₁ counts₂ (a .same ∙ sym (b .same)) (λ k l. a .zeros k ∙ sym (b .zeros k))
+
 -- no number is passed yet
 pub tally-none : (numbers counts : List ℕ) → Tallied (take 0 numbers) counts counts
 tally-none numbers counts = record { same = refl; more = λ v. omega arith }

@@ -6,7 +6,7 @@ ghost use Rattle.search.specs.Search.{Parents};
 ghost use Rattle.search.specs.Steps.{Zeros, Tallying, Tallied};
 
 // Sets each number to 0.
-fn clear(counts: &mut [u32])
+pub fn clear(counts: &mut [u32])
     ensures { λ r. ⌜ Zeros (now (counts .entry)) (now (counts .exit)) ⌝ }
 {
     let mut k = 0;

@@ -3,6 +3,7 @@ mod counts;
 mod rows;
 mod visits;
 
+pub use counts::clear;
 pub use counts::count_parents;
 pub use visits::search;
 

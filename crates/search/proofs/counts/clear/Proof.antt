@@ -36,8 +36,8 @@ loop-again c = let counts = c .before .loop .counts in
     let k = c .before .loop .k in (
       simp length-set (omega arith),
       simp length-set (omega arith),
-      below-more _ _ (λ j l. rw (getD-set-other counts k j 0 0 (λ q. omega arith)) (c .before .loop .inv .2 j l))
-          (getD-set-same counts k 0 0 (omega arith)),
+      below-more _ _ (λ j l. rw (getD-set-other counts k j _ 0 (λ q. omega arith)) (c .before .loop .inv .2 j l))
+          (getD-set-same counts k _ 0 (omega arith)),
     )
 
 same-length : tie.Need-same-length Inv-loop μ-loop
