@@ -1,5 +1,6 @@
 -- The theory of superbubbles, for any graph, cycles and self-loops included. Each file begins with what it shows; a file cites only files above it here. Assumes nothing.
 pub mod Walks
+pub mod Fewer
 pub mod Reversal
 pub mod Facts
 pub mod FromSet
@@ -7,6 +8,7 @@ pub mod FromOrder
 pub mod Pairs
 pub mod Unique
 pub mod Nesting
+pub mod SameEdges
 pub mod LoneEdge
 pub mod Pigeonhole
 pub mod Number

@@ -1,9 +1,9 @@
 -- Two superbubbles are nested or apart, in any graph. Assumes nothing.
 use Prim.Native.Nat.{ℕ}
 use mathlib.Core.Path.{sym}
-use mathlib.Core.Logic.{_≢_, _⊎_, inl, inr, ⊎-elim, ⊎-map}
+use mathlib.Core.Logic.{_≢_, _↔_, _⊎_, inl, inr, ⊎-elim, ⊎-map}
 use native.Mathlib.Decide.{ℕ-discrete}
-use Rattle.bubble.specs.Superbubble.{F, F.start, F.on, Bubbloid, Superbubble, Interior}
+use Rattle.bubble.specs.Superbubble.{F, F.start, F.on, Bubbloid, Superbubble, Interior, Outermost}
 use Rattle.bubble.proofs.Facts.{last-edge, closed-backward, no-edge-to-entrance, no-edge-from-exit}
 use Rattle.bubble.proofs.Pairs.{cross}
 use Rattle.bubble.proofs.Unique.{entrance-unique}
@@ -72,6 +72,13 @@ module _ {E : ℕ → ℕ → Type 0} {s t x y : ℕ} (p : Superbubble E s t) (q
   -- of two different superbubbles with a vertex interior to one and in the other, one lies in the interior of the other
   pub meets-nested : {v : ℕ} → Interior E s t v → F E x y v → Nested E s t x y ⊎ Nested E x y s t
   meets-nested i f = ⊎-map (nest p q) (nest q p) (meets i f)
+
+-- a superbubble is outermost exactly if its entrance is interior to no other
+pub outermost-by-entrance : {E : ℕ → ℕ → Type 0} {s t : ℕ} → Outermost E s t ↔ (Superbubble E s t × ((x y : ℕ) → Superbubble E x y → Interior E x y s → ⊥))
+outermost-by-entrance {s = s} = (
+  λ o. (o .superbubble, λ x y q i. o .in-no-other x y q (nest (o .superbubble) q i)),
+  λ h. record { superbubble = h .0; in-no-other = λ x y q n. h .1 x y q (n s start) },
+)
 
 -- two different superbubbles are nested one way, or the other, or apart; only whether each entrance lies in the other's U has to be known
 pub nested-or-apart : {E : ℕ → ℕ → Type 0} {s t x y : ℕ} → Superbubble E s t → Superbubble E x y → s ≢ x → Dec (F E x y s) → Dec (F E s t x)

@@ -1,11 +1,12 @@
--- A graph whose edges lie below n has at most n superbubbles. Assumes nothing.
+-- In a graph whose edges lie below n the vertices of a superbubble do, and there are at most n superbubbles. Assumes nothing.
 use Prim.Native.Nat.{ℕ, _≤_, _<_}
 use mathlib.Core.Path.{_≡_, sym}
 use mathlib.Core.List.{List, map, List·Memᴰ, Memᴰ·of-map}
 use native.Mathlib.Omega.{arith}
+use native.Mathlib.Decide.{ℕ-discrete}
 use lib.ListN.{length, length-map}
-use Rattle.bubble.specs.Superbubble.{F.start, Bubbloid, Superbubble}
-use Rattle.bubble.proofs.Facts.{exit-inside, predecessor, successor}
+use Rattle.bubble.specs.Superbubble.{F, F.start, Bubbloid, Superbubble, Interior}
+use Rattle.bubble.proofs.Facts.{last-edge, exit-inside, predecessor, successor}
 use Rattle.bubble.proofs.Unique.{exit-unique}
 use Rattle.bubble.proofs.Pigeonhole.{Distinct, distinct-below, distinct-map}
 
@@ -19,6 +20,14 @@ module _ {E : ℕ → ℕ → Type 0} {n : ℕ} (below : Below E n) where
 
   pub exit-below : {s t : ℕ} → Bubbloid E s t → t < n
   exit-below {t = t} b = let (u, f, e) = predecessor b (exit-inside b) (λ q. b .distinct (sym q)) in below u t e .1
+
+  -- so are the vertices of U
+  pub inside-below : {s t v : ℕ} → s < n → F E s t v → v < n
+  inside-below {s} {v = v} h f =
+      elim (ℕ-discrete v s) [ yes q ↦ rw q h | no k ↦ let (u, g, m, e) = last-edge f k in below u v e .1 ]
+
+  pub interior-below : {s t v : ℕ} → Interior E s t v → v < n
+  interior-below {v = v} i = let (u, f, m, e) = last-edge (i .inside) (i .not-entrance) in below u v e .1
 
   pub superbubbles-at-most : (l : List (ℕ × ℕ)) → Distinct l → ((p : ℕ × ℕ) → List·Memᴰ p l → Superbubble E (p .0) (p .1)) → length l ≤ n
   superbubbles-at-most l d h =

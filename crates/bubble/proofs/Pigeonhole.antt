@@ -1,4 +1,4 @@
--- Lists of pairwise different entries: such a list is no longer than one that holds all its entries, so no longer than n if its entries are numbers below n. Assumes nothing.
+-- Lists of pairwise different entries, and their places: such a list is no longer than one that holds all its entries, so no longer than n if its entries are numbers below n. Assumes nothing.
 use Prim.Native.Nat.{ℕ, zero, suc, _≤_, _<_}
 use mathlib.Core.Path.{_≡_, refl, sym, _∙_, ap}
 use mathlib.Core.Logic.{_≢_, ⊎-elim}
@@ -6,7 +6,7 @@ use mathlib.Core.List.{List, [], _∷_, _++_, map, List·Memᴰ, List·Memᴰ·h
 use native.Mathlib.Nat.{lt-irrefl}
 use native.Mathlib.Omega.{arith}
 use native.Mathlib.Decide.{ℕ-discrete}
-use lib.ListN.{length, length-map}
+use lib.ListN.{length, getD, length-map}
 
 -- pairwise different entries
 pub data Distinct {A : Type 0} : List A → Type 0 where
@@ -78,6 +78,32 @@ pub distinct-upto : (n : ℕ) → Distinct (upto n)
 unfolding upto
 distinct-upto zero = empty
 distinct-upto (suc n) = fresh (λ m. lt-irrefl n (upto-below n m)) (distinct-upto n)
+
+-- what stands at a place is an entry
+pub getD-in : (l : List ℕ) (j : ℕ) → j < length l → List·Memᴰ (getD l j 0) l
+getD-in [] j h = absurd (omega arith)
+getD-in (x ∷ l) zero h = List·Memᴰ·head refl
+getD-in (x ∷ l) (suc j) h = List·Memᴰ·tail (getD-in l j (omega arith))
+
+-- and each entry stands at a place
+pub place-of : {v : ℕ} {l : List ℕ} → List·Memᴰ v l → (j : ℕ) × (j < length l) × (getD l j 0 ≡ v)
+place-of (List·Memᴰ·head q) = (0, omega arith, sym q)
+place-of (List·Memᴰ·tail m) = let (j, h, q) = place-of m in (suc j, omega arith, q)
+
+-- pairwise different entries stand at different places
+pub distinct-apart : {l : List ℕ} → Distinct l → (i j : ℕ) → i < length l → j < length l → getD l i 0 ≡ getD l j 0 → i ≡ j
+distinct-apart empty i j h g q = absurd (omega arith)
+distinct-apart (fresh n d) zero zero h g q = refl
+distinct-apart (fresh {l = l} n d) zero (suc j) h g q = absurd (n (Memᴰ·cast q (getD-in l j (omega arith))))
+distinct-apart (fresh {l = l} n d) (suc i) zero h g q = absurd (n (Memᴰ·cast (sym q) (getD-in l i (omega arith))))
+distinct-apart (fresh n d) (suc i) (suc j) h g q = ap suc (distinct-apart d i j (omega arith) (omega arith) q)
+
+-- and what stands at different places is pairwise different
+pub apart-distinct : (l : List ℕ) → ((i j : ℕ) → i < length l → j < length l → getD l i 0 ≡ getD l j 0 → i ≡ j) → Distinct l
+apart-distinct [] h = empty
+apart-distinct (x ∷ l) h =
+    let new : List·Memᴰ x l → ⊥ = λ m. let (j, b, q) = place-of m in let e : 0 ≡ suc j = h 0 (suc j) (omega arith) (omega arith) (sym q) in omega arith in
+    fresh new (apart-distinct l (λ i j a b q. let e : suc i ≡ suc j = h (suc i) (suc j) (omega arith) (omega arith) q in omega arith))
 
 -- k places that hold pairwise different numbers below n are at most n
 pub places-below : (f : ℕ → ℕ) (k n : ℕ) → ((i : ℕ) → i < k → f i < n) → ((i j : ℕ) → i < k → j < k → f i ≡ f j → i ≡ j) → k ≤ n

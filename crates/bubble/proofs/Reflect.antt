@@ -1,10 +1,10 @@
--- Tests that compute, and what they decide: equality, and, or, not, membership of a list, every entry of a list, the entries that pass. Assumes nothing.
-use Prim.Native.Nat.{ℕ}
+-- Tests that compute, and what they decide: equality, order, and, or, not, membership of a list, every entry of a list, the entries that pass. Assumes nothing.
+use Prim.Native.Nat.{ℕ, _<_}
 use mathlib.Core.Path.{_≡_, refl}
 use mathlib.Core.Logic.{_↔_, _⊎_, inl, inr, ⊎-elim, ⊎-map}
 use mathlib.Core.Bool.{Bool, true, false, not, _&&_, _||_}
 use mathlib.Core.List.{List, [], _∷_, List·Memᴰ, List·Memᴰ·head, List·Memᴰ·tail, List·Memᴰ·not-nil, List·Memᴰ·cases-cons}
-use lib.Dec.{T, eqb, eqb→eq, eqb-refl}
+use lib.Dec.{T, eqb, ltb, eqb→eq, eqb-refl, ltb→lt, lt→ltb}
 use Rattle.bubble.proofs.Pigeonhole.{Distinct, Distinct.empty, Distinct.fresh}
 
 -- the test answers whether P holds
@@ -57,6 +57,13 @@ pub decides-equal : (m n : ℕ) → Decides (m ≡ n) (eqb m n)
 decides-equal m n = go (eqb m n) (eqb→eq m n) (λ q. rw q (eqb-refl n))
   where
     go : (b : Bool) → (T b → m ≡ n) → (m ≡ n → T b) → Decides (m ≡ n) b
+    go true f g = holds (f tt)
+    go false f g = fails g
+
+pub decides-below : (m n : ℕ) → Decides (m < n) (ltb m n)
+decides-below m n = go (ltb m n) (ltb→lt m n) (lt→ltb m n)
+  where
+    go : (b : Bool) → (T b → m < n) → (m < n → T b) → Decides (m < n) b
     go true f g = holds (f tt)
     go false f g = fails g
 

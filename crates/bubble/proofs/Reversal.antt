@@ -2,7 +2,7 @@
 use Prim.Native.Nat.{ℕ}
 use mathlib.Core.Path.{sym}
 use mathlib.Core.Logic.{_↔_}
-use Rattle.bubble.specs.Superbubble.{Reaches, Reaches.none, Reaches.then, F, F.start, F.on, B, B.end, B.from, Walk, Walk.edge, Walk.more, Bubbloid}
+use Rattle.bubble.specs.Superbubble.{Reaches, Reaches.none, Reaches.then, F, F.start, F.on, B, B.end, B.from, Walk, Walk.edge, Walk.more, Bubbloid, Interior}
 use Rattle.bubble.proofs.Walks.{walk-before, walk-widen, reaches-before, F-reaches, F-no-return, F-onward}
 
 -- the graph turned round
@@ -46,6 +46,13 @@ B-onward b c = F-reversed .0 (F-onward (F-reversed .1 b) (F-reversed .1 c))
 -- the set of a bubbloid stays what it is
 pub inside-reversed : {E : ℕ → ℕ → Type 0} {s t v : ℕ} → Bubbloid E s t → F E s t v ↔ F (rev E) t s v
 inside-reversed {v = v} b = (λ f. F-reversed .1 (b .matching v .0 f), λ f. b .matching v .1 (F-reversed .0 f))
+
+-- so does its interior
+pub interior-reversed : {E : ℕ → ℕ → Type 0} {s t v : ℕ} → Bubbloid E s t → Interior E s t v ↔ Interior (rev E) t s v
+interior-reversed b = (
+  λ i. record { inside = inside-reversed b .0 (i .inside); not-entrance = i .not-exit; not-exit = i .not-entrance },
+  λ i. record { inside = inside-reversed b .1 (i .inside); not-entrance = i .not-exit; not-exit = i .not-entrance },
+)
 
 turned : {E : ℕ → ℕ → Type 0} {s t : ℕ} → Bubbloid E s t → Bubbloid (rev E) t s
 turned b = record {

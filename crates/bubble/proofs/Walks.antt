@@ -28,6 +28,21 @@ module _ {E : ℕ → ℕ → Type 0} where
   reaches-before e none = then none e
   reaches-before e (then r f) = then (reaches-before e r) f
 
+  -- one path behind another is a path
+  pub reaches-append : {u v w : ℕ} → Reaches E u v → Reaches E v w → Reaches E u w
+  reaches-append r none = r
+  reaches-append r (then k e) = then (reaches-append r k) e
+
+  -- a path and an edge behind it are a walk inside a set that holds every vertex
+  pub reaches-walk : {P : ℕ → Type 0} {u v w : ℕ} → ((x : ℕ) → P x) → Reaches E u v → E v w → Walk E P u w
+  reaches-walk {u = u} {w = w} all none e = edge (all u) e (all w)
+  reaches-walk {w = w} all (then r f) e = more (reaches-walk all r f) e (all w)
+
+  -- a walk is its first edge and a path behind it
+  pub walk-first : {P : ℕ → Type 0} {u v : ℕ} → Walk E P u v → (w : ℕ) × E u w × Reaches E w v
+  walk-first {v = v} (edge p e q) = (v, e, none)
+  walk-first (more w f q) = let (x, e, r) = walk-first w in (x, e, then r f)
+
   pub F-reaches : {s t v : ℕ} → F E s t v → Reaches E s v
   F-reaches start = none
   F-reaches (on f n e) = then (F-reaches f) e

@@ -10,14 +10,13 @@ use lib.ListN.{length, getD, set, length-set}
 use lib.Seq.{getD-set-same, getD-set-other}
 use Rattle.table.specs.Table.{In}
 use Rattle.bubble.specs.Superbubble.{Interior, Superbubble}
-use Rattle.bubble.proofs.Nesting.{nest}
+use Rattle.bubble.proofs.Nesting.{nest, outermost-by-entrance}
 use Rattle.bubble.proofs.Number.{Below, entrance-below}
 use Rattle.bubble.proofs.Unique.{exit-unique}
+use Rattle.search.proofs.OccurrenceLaws.{in-decided}
 use Rattle.rule.specs.Lists.{Graph}
 use Rattle.rule.specs.Fold.{Candidate}
-use Rattle.rule.proofs.Outermost.{outermost-by-entrance}
 use Rattle.candidates.specs.Steps.{RuledOut, Filled, Enclosed, Passed}
-use Rattle.candidates.proofs.RuleOutLaws.{in-decided}
 
 -- what is interior to a superbubble begins no candidate
 enclosed-none : {E : Graph} {s v t : ℕ} → Enclosed E s v → Candidate E v t → ⊥

@@ -3,20 +3,12 @@ use Prim.Native.Nat.{ℕ, _+_, _<_}
 use mathlib.Core.Path.{_≡_, refl, sym, _∙_}
 use mathlib.Core.List.{List}
 use native.Mathlib.Omega.{arith}
-use native.Mathlib.Decide.{ℕ-discrete, decLt}
+use native.Mathlib.Decide.{ℕ-discrete}
 use lib.ListN.{length, getD, take, set, length-set}
 use lib.Seq.{getD-set-same, getD-set-other}
 use Rattle.table.specs.Table.{In}
-use Rattle.search.specs.Search.{occurrences}
-use Rattle.search.proofs.OccurrenceLaws.{in-occurs, occurs-in, in-take, take-in}
+use Rattle.search.proofs.OccurrenceLaws.{in-take, take-in}
 use Rattle.candidates.specs.Steps.{RuledOut}
-
-pub in-decided : (v : ℕ) (list : List ℕ) → Dec (In v list)
-in-decided v list =
-    elim (decLt 0 (occurrences v list)) [
-      | yes h ↦ yes (occurs-in v list h)
-      | no n ↦ no (λ i. n (in-occurs v list i))
-    ]
 
 -- none is ruled out yet
 pub ruled-none : (list exits : List ℕ) (none : ℕ) → RuledOut (take 0 list) exits exits none

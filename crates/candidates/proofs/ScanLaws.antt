@@ -10,8 +10,7 @@ use lib.Seq.{getD-drop}
 use Rattle.table.specs.Table.{vertices, In, Below, Edge, WellFormed}
 use Rattle.table.proofs.RowLaws.{edges-below}
 use Rattle.bubble.specs.Superbubble.{Interior, Superbubble}
-use Rattle.bubble.proofs.Facts.{predecessor}
-use Rattle.bubble.proofs.Number.{exit-below}
+use Rattle.bubble.proofs.Number.{exit-below, interior-below}
 use Rattle.bubble.proofs.Unique.{exit-unique}
 use Rattle.search.specs.declared.Exit.{Exit}
 use Rattle.search.specs.declared.Exit.the-variants.{At, Nothing}
@@ -98,8 +97,7 @@ module _ {starts targets parents left order exits : List ℕ} {s : ℕ} (scan : 
       below : Below (length exits) (inner order′ k)
       below i l =
           let inside = inner-is visited (getD (inner order′ k) i 0) .0 (record { place = i; inside = l; stands = refl }) in
-          let (u, f, e) = predecessor (visited .superbubble .bubbloid) (inside .inside) (inside .not-entrance) in
-          omega (arith, scan .passed .each, edges-below (scan .well-formed) u (getD (inner order′ k) i 0) e .1)
+          omega (arith, scan .passed .each, interior-below (edges-below (scan .well-formed)) inside)
   scan-notable Nothing order′ h none = (omega (arith, scan .passed .each), omega (arith, scan .passed .each, scan .well-formed .most-vertices))
 
   next : (exit : Exit) (order′ exits′ : List ℕ) → s < vertices starts → getD exits s 0 ≢ length exits → Searched starts targets s exit order′ → Noted order′ exits exits′ s exit

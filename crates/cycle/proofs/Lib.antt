@@ -1,5 +1,4 @@
 -- The laws of `cycle`, in the order in which one reads them.
 pub mod SafeLaws
-pub mod EdgeLaws
 pub mod CountLaws
 pub mod VisitLaws

@@ -8,11 +8,11 @@ use native.Mathlib.Decide.{ℕ-discrete}
 use lib.ListN.{length, getD, set, length-set}
 use lib.Seq.{getD-set-same, getD-set-other}
 use Rattle.table.specs.Table.{vertices, row, In, Edge}
+use Rattle.table.proofs.RowLaws.{in-row-below}
 use Rattle.bubble.specs.Superbubble.{Walk.edge, Walk.more}
 use Rattle.cycle.specs.Cycle.{Cyclic}
 use Rattle.cycle.specs.Visits.{Testable, Unvisited, Safe, Safe.safe, Visitable, Onward, Visited}
 use Rattle.cycle.proofs.SafeLaws.{safe-no-cycle}
-use Rattle.cycle.proofs.EdgeLaws.{in-row-below}
 
 -- one colour more is 0
 pub cleared-more : {colours colours′ : List ℕ} (v : ℕ) → v < length colours → Unvisited v colours colours′ → Unvisited (v + 1) colours (set colours′ v 0)
@@ -130,7 +130,7 @@ module _ {starts targets : List ℕ} where
             | no n ↦ can .done-safe u l (rw (getD-set-other colours v u 1 0 n) at d)
           ];
           ahead = λ w i. record {
-            vertex = in-row-below (can .testable .well-formed) v i;
+            vertex = in-row-below starts targets (can .testable .well-formed .targets-below) v w i;
             walk = λ u l p. elim (ℕ-discrete u v) [
               | yes q ↦ rw q (edge tt (record { vertex = here .vertex; listed = i }) tt)
               | no n ↦ more (here .walk u l (rw (getD-set-other colours v u 1 0 n) at p)) (record { vertex = here .vertex; listed = i }) tt
@@ -146,7 +146,7 @@ module _ {starts targets : List ℕ} where
         let long : length colours′ ≡ length colours = was .onward .same ∙ length-set colours v 1 in
         let ends : getD (set colours′ v 2) v 0 ≡ 2 = getD-set-same colours′ v 2 0 (omega (arith, coloured)) in
         let all : Safe (Edge starts targets) v =
-        safe (λ w e. was .done-safe w (in-row-below (can .testable .well-formed) v (e .listed)) (was .done w (e .listed))) in
+        safe (λ w e. was .done-safe w (in-row-below starts targets (can .testable .well-formed .targets-below) v w (e .listed)) (was .done w (e .listed))) in
         record {
           onward = record {
             same = length-set colours′ v 2 ∙ long;

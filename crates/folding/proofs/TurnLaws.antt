@@ -2,29 +2,28 @@
 use Prim.Native.Nat.{ℕ, zero, suc, _+_, _≤_, _<_}
 use mathlib.Core.Path.{_≡_, refl, sym, ap, _∙_}
 use mathlib.Core.Logic.{_⊎_, inl, inr, ⊎-elim}
-use mathlib.Core.Bool.{Bool, true, false, cond}
-use mathlib.Core.List.{List, [], _∷_, _++_, map-append, List·Memᴰ, List·Memᴰ·head, List·Memᴰ·tail, List·Memᴰ·not-nil, List·Memᴰ·cases-cons, List·Memᴰ·append-cases, List·Memᴰ·eq-of-singleton, Memᴰ·append-left, Memᴰ·append-right, Memᴰ·map}
+use mathlib.Core.List.{List, [], _∷_, _++_, map-append, List·Memᴰ, List·Memᴰ·head, List·Memᴰ·not-nil, List·Memᴰ·append-cases, List·Memᴰ·eq-of-singleton, Memᴰ·append-left, Memᴰ·append-right, Memᴰ·map}
 use native.Mathlib.Decide.{ℕ-discrete}
 use native.Mathlib.Omega.{arith}
-use lib.Dec.{ltb}
-use lib.ListN.{length, getD, take, length-take, length-append, length-map}
+use lib.ListN.{length, getD, take, length-take, length-append, length-map, drop, take-append-drop}
 use lib.Seq.{take-all, take-append-le}
 use Rattle.table.specs.Table.{vertices, Edge, Counted}
+use Rattle.table.proofs.RowLaws.{edges-below}
 use Rattle.bubble.specs.Superbubble.{F, Interior}
 use Rattle.bubble.proofs.Facts.{exit-inside}
-use Rattle.search.proofs.InsideLaws.{inside-below}
-use Rattle.search.proofs.OccurrenceLaws.{in-occurs, occurs-in}
-use Rattle.search.specs.Search.{occurrences, Visited}
+use Rattle.bubble.proofs.Pigeonhole.{getD-in}
+use Rattle.bubble.proofs.Number.{inside-below}
+use Rattle.search.proofs.OccurrenceLaws.{in-decided}
+use Rattle.search.specs.Search.{Visited}
 use Rattle.rule.specs.Lists.{sum, Follows}
 use Rattle.rule.specs.Kept.{Kept}
 use Rattle.rule.specs.Fold.{NoCycle, Candidate, to-first, first-takes-all, Item, Fits}
 use Rattle.rule.specs.Tables.{count-of}
 use Rattle.rule.proofs.Candidates.{candidate-laws}
 use Rattle.rule.proofs.Following.{follows-head}
-use Rattle.rule.proofs.Listings.{getD-in}
 use Rattle.rule.proofs.ByNumber.{Numbered}
 use Rattle.candidates.specs.Candidates.{entrances-below}
-use Rattle.candidates.proofs.EntranceLaws.{entrance-more, entrance-none}
+use Rattle.candidates.proofs.EntranceLaws.{entrance-more, entrance-none, listed-below}
 use Rattle.kept.specs.Keeping.{KeptDone}
 use Rattle.kept.proofs.DoneLaws.{followed-or-dropped}
 use Rattle.folding.specs.Turns.{Turns}
@@ -52,21 +51,6 @@ turns-none starts targets counts exits next out budget whole same =
     take-nothing : (b : ℕ) → take b (entrances-below exits 0) ≡ []
     take-nothing zero = refl
     take-nothing (suc b) = refl
-
-cond-member : (b : Bool) (s v : ℕ) → List·Memᴰ v (cond b (s ∷ []) []) → v ≡ s
-cond-member true s v m = List·Memᴰ·eq-of-singleton m
-cond-member false s v m = absurd (List·Memᴰ·not-nil m)
-
-passed-below : (exits : List ℕ) (s v : ℕ) → List·Memᴰ v (entrances-below exits s) → v < s
-passed-below exits zero v m = absurd (List·Memᴰ·not-nil m)
-passed-below exits (suc s) v m =
-    ⊎-elim (λ k. let l = passed-below exits s v k in omega arith) (λ k. let e = cond-member (ltb (getD exits s 0) (length exits)) s v k in omega arith)
-    (List·Memᴰ·append-cases (entrances-below exits s) m)
-
-front-member : (b : ℕ) (l : List ℕ) (v : ℕ) → List·Memᴰ v (take b l) → List·Memᴰ v l
-front-member zero l v m = absurd (List·Memᴰ·not-nil m)
-front-member (suc b) [] v m = absurd (List·Memᴰ·not-nil m)
-front-member (suc b) (x ∷ l) v m = ⊎-elim (λ e. List·Memᴰ·head e) (λ k. List·Memᴰ·tail (front-member b l v k)) (List·Memᴰ·cases-cons m)
 
 module _ (starts targets counts exits next out : List ℕ) (budget s folded : ℕ) (turns : Turns starts targets counts exits next out budget s folded) where
   -- so many are folded as there are, up to the budget
@@ -98,7 +82,9 @@ module _ (starts targets counts exits next out : List ℕ) (budget s folded : �
 
   -- a folded entrance was passed
   item-below : (i : Item) → List·Memᴰ i (turns .items) → i .entrance < s
-  item-below i m = passed-below exits s (i .entrance) (front-member budget (entrances-below exits s) (i .entrance) (rw (turns .first) at (Memᴰ·map (λ (j : Item). j .entrance) m)))
+  item-below i m =
+      let folded-one : List·Memᴰ (i .entrance) (take budget (entrances-below exits s)) = rw (turns .first) at (Memᴰ·map (λ (j : Item). j .entrance) m) in
+      listed-below exits s .holds (i .entrance) .0 (rw take-append-drop at (Memᴰ·append-left (drop budget (entrances-below exits s)) folded-one)) .0
 
 module _ (starts targets counts exits next out : List ℕ) (budget s folded : ℕ) (ok : Counted starts targets counts) (acyclic : NoCycle (Edge starts targets))
     (turns : Turns starts targets counts exits next out budget s folded) (t : ℕ) (candidate : Candidate (Edge starts targets) s t) where
@@ -135,7 +121,7 @@ module _ (starts targets counts exits next out : List ℕ) (budget s folded : �
     -- what follows on the kept path is a vertex
     next-below : (u w : ℕ) → Follows (s ∷ done .item .arm ++ (t ∷ [])) u w → w < vertices starts
     next-below u w f =
-        inside-below starts targets (ok .well-formed) s t w entrance
+        inside-below (edges-below (ok .well-formed)) {t = t} entrance
         (⊎-elim (λ m. kept .arm .inner w m .inside) (λ m. let e : w ≡ t = List·Memᴰ·eq-of-singleton m in rw e exit-in)
         (List·Memᴰ·append-cases (done .item .arm) (follows-head f)))
 
@@ -173,17 +159,11 @@ module _ (starts targets counts exits next out : List ℕ) (budget s folded : �
 
     numbered-all : (u : ℕ) → u < vertices starts → Numbered (Edge starts targets) (turns .items ++ done .item ∷ []) (vertices starts) (count-of next′) u
     numbered-all u h =
-        elim (ℕ-discrete (occurrences u (take k visited)) 0) [
-          | yes z ↦
-              elsewhere u h
-              (λ f.
-              elim (ℕ-discrete u t) [
-                | yes e ↦ e
-                | no o ↦ absurd (let p = in-occurs u (take k visited) (order .whole u .1 (f, o)) in let no : ⊥ = omega arith in no)
-              ])
-          | no p ↦
-              let (f, o) = order .whole u .0 (occurs-in u (take k visited) (omega arith)) in
+        elim (in-decided u (take k visited)) [
+          | yes i ↦
+              let (f, o) = order .whole u .0 i in
               ⊎-elim (λ next-one. on-path u (next-one .0) (next-one .1)) (off-path u) (followed-or-dropped done f o)
+          | no n ↦ elsewhere u h (λ f. elim (ℕ-discrete u t) [ yes e ↦ e | no o ↦ absurd (n (order .whole u .1 (f, o))) ])
         ]
 
     added-all : (i : Item) → List·Memᴰ i (turns .items ++ done .item ∷ []) → (j : ℕ) → j < length (i .arm)

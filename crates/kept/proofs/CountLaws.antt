@@ -10,7 +10,6 @@ use Rattle.table.specs.Table.{countSum}
 use Rattle.bubble.proofs.Pigeonhole.{Distinct, Distinct.empty, Distinct.fresh}
 use Rattle.rule.specs.Lists.{Counts, sum}
 use Rattle.rule.specs.Tables.{count-of}
-use Rattle.rule.proofs.Listings.{place-of}
 use Rattle.rule.proofs.Sums.{sum-same}
 
 -- the sum less one count
@@ -26,13 +25,6 @@ distinct-sum counts (fresh {a = a} {l = l} n d) h =
     let same : sum (count-of counts) l ≡ sum (count-of less) l = sum-same l (λ v m. sym (getD-set-other counts a v 0 0 (λ q. n (Memᴰ·cast (sym q) m)))) in
     let rest : sum (count-of less) l ≤ countSum less = distinct-sum less d (λ v m. rw (length-set counts a 0) (h v (List·Memᴰ·tail m))) in
     omega (arith, same, rest, taken-out counts a (h a (List·Memᴰ·head refl)))
-
--- a list with different places is one of different entries
-pub apart-distinct : (l : List ℕ) → ((i j : ℕ) → i < length l → j < length l → getD l i 0 ≡ getD l j 0 → i ≡ j) → Distinct l
-apart-distinct [] h = empty
-apart-distinct (x ∷ l) h =
-    let new : List·Memᴰ x l → ⊥ = λ m. let (j, b, q) = place-of m in let e : 0 ≡ suc j = h 0 (suc j) (omega arith) (omega arith) (sym q) in omega arith in
-    fresh new (apart-distinct l (λ i j a b q. let e : suc i ≡ suc j = h (suc i) (suc j) (omega arith) (omega arith) q in omega arith))
 
 -- the sum from a place on: that place's count and the rest
 pub sum-from : (c : Counts) (l : List ℕ) (j : ℕ) → j < length l → sum c (drop j l) ≡ c (getD l j 0) + sum c (drop (suc j) l)

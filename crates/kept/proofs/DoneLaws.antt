@@ -9,8 +9,8 @@ use lib.Seq.{ext-getD}
 use Rattle.table.specs.Table.{Edge}
 use Rattle.bubble.specs.Superbubble.{F, Interior}
 use Rattle.bubble.proofs.Reflect.{decided, decides-member}
+use Rattle.bubble.proofs.Pigeonhole.{place-of}
 use Rattle.rule.specs.Lists.{Follows, Follows.here, Follows.later}
-use Rattle.rule.proofs.Listings.{place-of}
 use Rattle.rule.proofs.Candidates.{candidate-laws}
 use Rattle.rule.proofs.BestLaws.{first-takes-all-laws}
 use Rattle.rule.proofs.Items.{interior-listed, item-unique}

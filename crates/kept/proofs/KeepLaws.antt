@@ -3,7 +3,7 @@
 use Prim.Native.Nat.{ℕ, zero, suc, _+_, _≤_, _<_}
 use mathlib.Core.Path.{_≡_, refl, sym, _∙_, ap}
 use mathlib.Core.Logic.{_≢_, _↔_, ⊎-elim}
-use mathlib.Core.List.{List, [], _∷_, _++_, List·Memᴰ, List·Memᴰ·cases-cons, List·Memᴰ·append-cases, List·Memᴰ·eq-of-singleton, Memᴰ·cast}
+use mathlib.Core.List.{List, [], _∷_, _++_, List·Memᴰ, List·Memᴰ·cases-cons, List·Memᴰ·append-cases, List·Memᴰ·eq-of-singleton}
 use native.Mathlib.Omega.{arith}
 use native.Mathlib.Decide.{ℕ-discrete}
 use lib.ListN.{length, getD, set, length-set}
@@ -11,13 +11,13 @@ use lib.Seq.{getD-set-same, getD-set-other}
 use Rattle.table.specs.Table.{vertices, Edge}
 use Rattle.table.proofs.RowLaws.{edge-below}
 use Rattle.bubble.specs.Superbubble.{F, Interior}
-use Rattle.bubble.proofs.Pigeonhole.{Distinct, Distinct.fresh}
+use Rattle.bubble.proofs.Pigeonhole.{getD-in, distinct-apart}
 use Rattle.bubble.proofs.Reflect.{decided, decides-member}
 use Rattle.rule.specs.Lists.{sum, Listing, Follows}
 use Rattle.rule.specs.Kept.{Kept}
 use Rattle.rule.specs.Fold.{to-first}
 use Rattle.rule.specs.Tables.{count-of}
-use Rattle.rule.proofs.Listings.{rising-distinct, listing-same, listing-exists, getD-in}
+use Rattle.rule.proofs.Listings.{rising-distinct, listing-same, listing-exists}
 use Rattle.rule.proofs.Sums.{sum-reordered}
 use Rattle.rule.proofs.Following.{follows-tail}
 use Rattle.rule.proofs.Arms.{inner-distinct}
@@ -27,11 +27,6 @@ use Rattle.kept.specs.Keeping.{Keepable, KeptDone}
 use Rattle.kept.proofs.OrderLaws.{inside, visit-place, visited-below, child-later}
 use Rattle.kept.proofs.PassLaws.{length-puts, puts-listed, puts-other, gone-place, gone-distinct, gone-below, gone-sum}
 use Rattle.kept.proofs.PathLaws.{by-next-follows, by-next-first, by-next-some, passed-place, arm-gone, passing-path}
-
--- of different entries no later one is the first
-later-not-first : {l : List ℕ} (j : ℕ) → Distinct l → suc j < length l → getD l (suc j) 0 ≢ getD l 0 0
-later-not-first j (fresh {a = a} {l = l} n d) h q = n (Memᴰ·cast (sym q) (getD-in l j (omega arith)))
-later-not-first j Distinct.empty h q = absurd (omega arith)
 
 pub keep-settleable : {starts targets counts visited : List ℕ} {t : ℕ} {best next out : List ℕ} → Keepable starts targets counts visited t best next out
     → Settleable starts targets counts visited t best next
@@ -171,7 +166,7 @@ module _ {starts targets counts visited : List ℕ} {t : ℕ} {best next out bes
       added (suc j) h =
           let here : getD (w .arm) 0 0 ≡ first = by-next-first by-next (omega arith) .0 ∙ sym first-vertex in
           let v = getD (w .arm) (suc j) 0 in
-          let apart : v ≢ first = λ q. later-not-first j (inner-distinct (w .arm) (p .order .superbubble) (kept-path .arm)) h (q ∙ sym here) in
+          let apart : v ≢ first = λ q. omega (arith, distinct-apart (inner-distinct (w .arm) (p .order .superbubble) (kept-path .arm)) (suc j) 0 h (omega arith) (q ∙ sym here)) in
           omega (arith, other v apart, out-arm (getD-in (w .arm) (suc j) h))
 
       pub keep-first : KeptDone starts targets counts (getD visited 0 0) t best next out best′ next′ (set out₁ first more)

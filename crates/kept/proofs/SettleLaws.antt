@@ -1,5 +1,5 @@
 -- Laws of settling the visited vertices from the last to the first: the next one's children can be weighed, and with the best of them it is settled. Assumes nothing.
-use Prim.Native.Nat.{ℕ, zero, suc, _+_, _-_, _≤_, _<_}
+use Prim.Native.Nat.{ℕ, suc, _+_, _-_, _≤_, _<_}
 use mathlib.Core.Path.{_≡_, refl, sym, _∙_, ap}
 use mathlib.Core.Logic.{_≢_}
 use mathlib.Core.List.{List}
@@ -8,35 +8,21 @@ use native.Mathlib.Decide.{ℕ-discrete, decLt}
 use lib.ListN.{length, getD, set, drop}
 use lib.Seq.{getD-set-same, getD-set-other}
 use Rattle.table.specs.Table.{vertices, row, Rises, Edge}
-use Rattle.table.proofs.RowLaws.{edge-below}
+use Rattle.table.proofs.RowLaws.{edge-below, rises-before}
+use Rattle.bubble.proofs.Pigeonhole.{place-of, apart-distinct}
 use Rattle.rule.specs.Lists.{Graph, Counts, sum}
 use Rattle.rule.specs.Tables.{count-of}
-use Rattle.rule.proofs.Listings.{place-of}
-use Rattle.rule.proofs.ByNext.{worth, worth-exit, worth-other, Settled}
+use Rattle.rule.proofs.ByNext.{worth, worth-exit, worth-other, Settled, worth-same}
 use Rattle.kept.specs.Steps.{Choosable, Chosen, Settleable, SettledFrom}
-use Rattle.kept.proofs.CountLaws.{distinct-sum, apart-distinct, sum-from, sum-later}
+use Rattle.kept.proofs.CountLaws.{distinct-sum, sum-from, sum-later}
 use Rattle.kept.proofs.OrderLaws.{some-child, visited-below, child-later}
 
--- in a list that rises a later number is larger
-climbs : (xs : List ℕ) → Rises xs → (i d : ℕ) → i + suc d < length xs → getD xs i 0 < getD xs (i + suc d) 0
-climbs xs r i zero h = r i h
-climbs xs r i (suc d) h =
-    let q : i + suc (suc d) ≡ (i + suc d) + 1 = omega arith in
-    rw q (omega (arith, climbs xs r i d (omega arith), r (i + suc d) (omega arith)))
-
--- or as large at the same place
+-- in a list that rises a later number is larger, or as large at the same place
 climbs-to : (xs : List ℕ) → Rises xs → (i j : ℕ) → i ≤ j → j < length xs → getD xs i 0 ≤ getD xs j 0
 climbs-to xs r i j h l =
     elim (ℕ-discrete i j) [
       | yes q ↦ omega (arith, ap (λ x. getD xs x 0) q)
-      | no n ↦ let e : i + suc (j - suc i) ≡ j = omega arith in omega (arith, rw e at (climbs xs r i (j - suc i) (omega arith)))
-    ]
-
-worth-same : (c : Counts) {t u : ℕ} (best best′ : ℕ → ℕ) → (u ≢ t → best′ u ≡ best u) → worth c t best′ u ≡ worth c t best u
-worth-same c {t} {u} best best′ h =
-    elim (ℕ-discrete u t) [
-      | yes q ↦ worth-exit c best′ q ∙ sym (worth-exit c best q)
-      | no n ↦ omega (arith, worth-other c best′ n, worth-other c best n, h n)
+      | no n ↦ omega (arith, rises-before xs r i j (omega arith) l)
     ]
 
 -- a settled vertex stays so where nothing that it rests on changes
@@ -100,7 +86,7 @@ module _ {starts targets counts visited : List ℕ} {t : ℕ} {best₀ next₀ :
       -- what a child of this or a later vertex is worth stays the same
       worth-still : (i : ℕ) → k ≤ i → i < length visited → (u : ℕ) → Edge starts targets (getD visited i 0) u
           → worth (count-of counts) t (count-of (set best v gain)) u ≡ worth (count-of counts) t (count-of best) u
-      worth-still i h b u e = worth-same (count-of counts) (count-of best) (count-of (set best v gain)) (λ n.
+      worth-still i h b u e = worth-same (count-of counts) (count-of (set best v gain)) (count-of best) (λ n.
           let (j, a, d, q) = child-later (p .order) i u b e n in
           best-other u (λ r. omega (arith, p .order .apart j k d l (q ∙ r))))
 

@@ -8,13 +8,14 @@ use native.Mathlib.Decide.{ℕ-discrete}
 use native.Mathlib.Omega.{arith}
 use lib.ListN.{length, getD, take, replicate}
 use Rattle.table.specs.Table.{vertices, In, Edge, Below, WellFormed}
+use Rattle.table.proofs.RowLaws.{edges-below}
 use Rattle.bubble.specs.Superbubble.{F, Superbubble}
 use Rattle.bubble.proofs.Facts.{exit-inside}
+use Rattle.bubble.proofs.Number.{inside-below}
 use Rattle.vertices.specs.Vertices.{Member, Numbers, Words, Added, Size}
 use Rattle.vertices.proofs.SetLaws.{empty}
 use Rattle.vertices.proofs.NumberLaws.{numbers-same}
 use Rattle.search.specs.Search.{Visited}
-use Rattle.search.proofs.InsideLaws.{inside-below}
 use Rattle.search.proofs.OccurrenceLaws.{in-take, take-in}
 use Rattle.listing.specs.Listing.{Judged}
 use Rattle.listing.specs.Steps.{AllAdded}
@@ -87,7 +88,7 @@ pub visited-below : (starts targets order : List ℕ) (s t k : ℕ) → WellForm
 visited-below starts targets order s t k ok h visited i l =
     let v = getD (take k order) i 0 in
     let inside = visited .whole v .0 (record { place = i; inside = l; stands = refl }) .0 in
-    omega (arith, inside-below starts targets ok s t v h inside, ok .most-vertices)
+    omega (arith, inside-below (edges-below ok) h inside, ok .most-vertices)
 
 module _ (starts targets : List ℕ) (s t : ℕ) where
   pub judged-no : (answer : Bool) (size : ℕ) → (answer ≡ false) × (size ≡ 0) → (Superbubble (Edge starts targets) s t → ⊥) → Judged starts targets s t answer size

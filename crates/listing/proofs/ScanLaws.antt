@@ -6,7 +6,7 @@ use native.Mathlib.Omega.{arith}
 use lib.ListN.{length, drop, set, length-append, length-drop}
 use Rattle.table.specs.Table.{vertices, Edge, WellFormed}
 use Rattle.table.proofs.FrontLaws.{front-more}
-use Rattle.table.proofs.RowLaws.{edge-below}
+use Rattle.table.proofs.RowLaws.{edges-below}
 use Rattle.bubble.specs.Superbubble.{Superbubble}
 use Rattle.bubble.proofs.Number.{entrance-below}
 use Rattle.bubble.proofs.Unique.{exit-unique}
@@ -123,12 +123,10 @@ module _ (starts targets parents left order out out′ : List ℕ) (n found s : 
   pub scan-done : n ≤ s → ListedAt (Superbubble (Edge starts targets)) out out′ found
   scan-done h =
       let P = Superbubble (Edge starts targets) in
-      let inside : (u v : ℕ) → Edge starts targets u v → (u < vertices starts) × (v < vertices starts)
-      = λ u v e. (e .vertex, edge-below starts targets (scan .well-formed .targets-below) u v e) in
       record {
         pairs = scan .lines .pairs;
         listed =
             listed-same (Before P s) P (scan .lines .pairs) found (λ x y b. b .1)
-            (λ x y b. (let l : x < s = omega (arith, entrance-below inside (b .bubbloid), scan .all) in l, b)) (scan .lines .listed);
+            (λ x y b. (let l : x < s = omega (arith, entrance-below (edges-below (scan .well-formed)) (b .bubbloid), scan .all) in l, b)) (scan .lines .listed);
         front = scan .lines .front;
       }

@@ -7,35 +7,18 @@ use mathlib.Core.Bool.{Bool, true, false, _&&_}
 use mathlib.Core.List.{List, [], _∷_, List·Memᴰ, List·Memᴰ·head, List·Memᴰ·tail}
 use native.Mathlib.Nat.{not-suc-le-zero, le-of-suc-le-suc}
 use native.Mathlib.Omega.{arith}
-use lib.Dec.{T, ltb, eqb, ltb→lt, lt→ltb, eqb→eq}
+use lib.Dec.{T, ltb, eqb, ltb→lt, eqb→eq}
 use lib.ListN.{length, getD}
-use Rattle.table.specs.Table.{vertices, row, In, Edge}
+use Rattle.table.specs.Table.{vertices, row, Edge}
 use Rattle.table.proofs.RowLaws.{edge-below}
 use Rattle.bubble.specs.Superbubble.{Superbubble}
 use Rattle.bubble.proofs.Number.{Below}
-use Rattle.bubble.proofs.Reflect.{Decides, Decides.holds, Decides.fails, proved, decides-if, decides-and, member, decides-member, every, decides-every}
+use Rattle.bubble.proofs.Reflect.{Decides, proved, decides-if, decides-and, member, decides-member, every, decides-every, decides-below}
 use Rattle.bubble.proofs.Enumerate.{superbubbles, superbubbles-listed}
+use Rattle.bubble.proofs.Pigeonhole.{getD-in}
+use Rattle.vertices.proofs.NumberLaws.{in-list}
 use Rattle.listing.specs.Listing.{Stands, Listed}
 use Rattle.listing.specs.Graphs.{Graph, graphs, flat}
-
--- x stands in a list exactly if it is a member
-in-member : (x : ℕ) (xs : List ℕ) → List·Memᴰ x xs → In x xs
-in-member x (y ∷ xs) (List·Memᴰ·head e) = record { place = 0; inside = suc-le-suc zero-le; stands = sym e }
-in-member x (y ∷ xs) (List·Memᴰ·tail m) =
-    let found = in-member x xs m in
-    record { place = suc (found .place); inside = suc-le-suc (found .inside); stands = found .stands }
-
-member-at : (x : ℕ) (xs : List ℕ) (k : ℕ) → k < length xs → getD xs k 0 ≡ x → List·Memᴰ x xs
-member-at x [] k h e = absurd (not-suc-le-zero h)
-member-at x (y ∷ xs) zero h e = List·Memᴰ·head (sym e)
-member-at x (y ∷ xs) (suc k) h e = List·Memᴰ·tail (member-at x xs k (le-of-suc-le-suc h) e)
-
-decides-below : (m n : ℕ) → Decides (m < n) (ltb m n)
-decides-below m n = go (ltb m n) (ltb→lt m n) (lt→ltb m n)
-  where
-    go : (b : Bool) → (T b → m < n) → (m < n → T b) → Decides (m < n) b
-    go true f g = holds (f tt)
-    go false f g = fails g
 
 -- whether u>v is an edge of a table
 unfoldable edge-test : List ℕ → List ℕ → ℕ → ℕ → Bool
@@ -46,8 +29,8 @@ decides-edge : (starts targets : List ℕ) (u v : ℕ) → Decides (Edge starts 
 unfolding edge-test
 decides-edge starts targets u v =
     decides-if (
-      (λ p. record { vertex = p .0; listed = in-member v (row starts targets u) (p .1) }),
-      (λ e. (e .vertex, member-at v (row starts targets u) (e .listed .place) (e .listed .inside) (e .listed .stands))),
+      (λ p. record { vertex = p .0; listed = in-list .1 (p .1) }),
+      (λ e. (e .vertex, in-list .0 (e .listed))),
     )
     (decides-and (decides-below u (vertices starts)) (decides-member v (row starts targets u)))
 
@@ -62,7 +45,7 @@ edges-inside starts targets t u v e = (e .vertex, edge-below starts targets belo
     below : (k : ℕ) → k < length targets → getD targets k 0 < vertices starts
     below k h =
         decided-every (every (λ (x : ℕ). ltb x (vertices starts)) targets) (decides-every (λ x. decides-below x (vertices starts)) targets) t (getD targets k 0)
-        (member-at (getD targets k 0) targets k h refl)
+        (getD-in targets k h)
 
 -- whether the entrances rise
 abbrev rising-test : List (ℕ × ℕ) → Bool

@@ -17,7 +17,7 @@ use Rattle.bubble.proofs.Reflect.{decided, decides-test}
 use Rattle.bubble.proofs.Closure.{decides-closure}
 use Rattle.cycle.specs.Cycle.{Anywhere, Cyclic}
 use Rattle.bubble.specs.Superbubble.{Walk, Walk.edge, Walk.more}
-use Rattle.candidates.proofs.RuleOutLaws.{in-decided}
+use Rattle.search.proofs.OccurrenceLaws.{in-decided}
 
 -- each demand is decided where those before it are met
 abbrev pub DecidedInTurn : List Demand → Type 0

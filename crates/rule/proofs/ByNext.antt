@@ -1,6 +1,6 @@
 -- The kept path by dynamic programming: where each vertex of U has its best sum and the smallest child that gives it, the path by those children from the entrance is the kept one. Assumes nothing.
 use Prim.Native.Nat.{ℕ, zero, suc, _+_, _≤_, _<_}
-use mathlib.Core.Path.{_≡_, refl, sym, _∙_}
+use mathlib.Core.Path.{_≡_, refl, sym, ap, _∙_}
 use mathlib.Core.Logic.{_≢_, _↔_, _⊎_, inl, inr, ⊎-elim, ite, if-pos, if-neg}
 use mathlib.Core.List.{List, [], _∷_, _++_, List·Memᴰ, List·Memᴰ·head, List·Memᴰ·tail, List·Memᴰ·not-nil, List·Memᴰ·cases-cons}
 use native.Mathlib.Nat.{lt-irrefl}
@@ -25,6 +25,14 @@ worth-exit c best {t} {u} q = if-pos (ℕ-discrete u t) q 0 (c u + best u)
 pub worth-other : (c : Counts) (best : ℕ → ℕ) {t u : ℕ} → u ≢ t → worth c t best u ≡ c u + best u
 unfolding worth
 worth-other c best {t} {u} n = if-neg (ℕ-discrete u t) n 0 (c u + best u)
+
+-- it rests on the best sum of u alone
+pub worth-same : (c : Counts) {t u : ℕ} (best best′ : ℕ → ℕ) → (u ≢ t → best u ≡ best′ u) → worth c t best u ≡ worth c t best′ u
+worth-same c {t} {u} best best′ h =
+    elim (ℕ-discrete u t) [
+      | yes q ↦ worth-exit c best q ∙ sym (worth-exit c best′ q)
+      | no n ↦ worth-other c best n ∙ ap (λ (x : ℕ). c u + x) (h n) ∙ sym (worth-other c best′ n)
+    ]
 
 -- best v is the most that a child of v is worth, and next v the smallest child that is worth it
 pub record Settled (E : Graph) (c : Counts) (t : ℕ) (best next : ℕ → ℕ) (v : ℕ) : Type 0 where

@@ -1,20 +1,17 @@
 -- Document 01's candidates meet the laws in every graph without a cycle. Assumes nothing.
 use Prim.Native.Nat.{ℕ}
-use Rattle.bubble.specs.Superbubble.{F.start, Reaches, Reaches.none, Reaches.then, Walk, Walk.edge, Walk.more}
+use Rattle.bubble.specs.Superbubble.{F.start, Reaches}
+use Rattle.bubble.proofs.Walks.{reaches-walk}
 use Rattle.rule.specs.Lists.{Graph}
 use Rattle.rule.specs.Fold.{NoCycle, Candidate}
 use Rattle.rule.specs.Laws.{CandidateLaws}
-use Rattle.rule.proofs.Fewer.{walk-fewer}
+use Rattle.bubble.proofs.Fewer.{walk-fewer}
 use Rattle.rule.proofs.Passable.{OutermostPassable, passable-laws}
-
-reaches-walk : {E : Graph} {u v w : ℕ} → Reaches E u v → E v w → Walk E (λ x. Unit {0}) u w
-reaches-walk none e = edge tt e tt
-reaches-walk (then r d) e = more (reaches-walk r d) e tt
 
 -- in a graph without a cycle the two kinds of candidates are the same
 module _ {E : Graph} (a : NoCycle E) where
   never-passed-again : {s t : ℕ} → E s t → Reaches E t s → ⊥
-  never-passed-again {t = t} e r = a t (reaches-walk r e)
+  never-passed-again {t = t} e r = a t (reaches-walk (λ x. tt) r e)
 
   to-passable : {s t : ℕ} → Candidate E s t → OutermostPassable E s t
   to-passable c = record {

@@ -3,14 +3,12 @@ use Prim.Native.Nat.{ℕ, _<_}
 use mathlib.Core.Path.{refl}
 use mathlib.Core.List.{List, [], _∷_, List·Memᴰ·head, List·Memᴰ·not-nil}
 use Rattle.bubble.specs.Superbubble.{Interior, Superbubble}
-use Rattle.bubble.proofs.Facts.{last-edge}
-use Rattle.bubble.proofs.Nesting.{interior-decided}
-use Rattle.bubble.proofs.Number.{Below, entrance-below, exit-below}
+use Rattle.bubble.proofs.Nesting.{interior-decided, outermost-by-entrance}
+use Rattle.bubble.proofs.Number.{Below, entrance-below, exit-below, interior-below}
 use Rattle.bubble.proofs.Decide.{F-decided, superbubble-decided}
 use Rattle.rule.specs.Lists.{Graph, Listing}
 use Rattle.rule.specs.Fold.{Candidate, Entrance}
 use Rattle.rule.proofs.Listings.{listing-exists}
-use Rattle.rule.proofs.Outermost.{outermost-by-entrance}
 
 -- whether there is one below n
 some-decided : {P : ℕ → Type 0} (n : ℕ) → ((v : ℕ) → Dec (P v)) → ((v : ℕ) → P v → v < n) → Dec ((v : ℕ) × P v)
@@ -23,9 +21,6 @@ some-decided {P} n d h = let (l, a) = listing-exists n d h in go l a
 module _ {E : Graph} (decide : (u v : ℕ) → Dec (E u v)) {n : ℕ} (below : Below E n) where
   pub interior-is-decided : (s t v : ℕ) → Dec (Interior E s t v)
   interior-is-decided s t v = interior-decided (F-decided decide n below s t v)
-
-  pub interior-below : {s t v : ℕ} → Interior E s t v → v < n
-  interior-below {v = v} i = let (u, f, m, e) = last-edge (i .inside) (i .not-entrance) in below u v e .1
 
   -- whether s is interior to another superbubble
   around-decided : (s : ℕ) → Dec ((x : ℕ) × ((y : ℕ) × (Superbubble E x y × Interior E x y s)))
@@ -43,7 +38,7 @@ module _ {E : Graph} (decide : (u v : ℕ) → Dec (E u v)) {n : ℕ} (below : B
       elim (superbubble-decided decide n below s t) [
         | no k ↦ no (λ c. k (c .outermost .superbubble))
         | yes p ↦
-            elim (some-decided n (interior-is-decided s t) (λ v. interior-below)) [
+            elim (some-decided n (interior-is-decided s t) (λ v. interior-below below)) [
               | no k ↦ no (λ c. k (c .interior))
               | yes i ↦
                   elim (around-decided s) [

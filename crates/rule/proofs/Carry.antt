@@ -4,10 +4,10 @@ use mathlib.Core.Path.{_≡_, sym, _∙_}
 use mathlib.Core.Logic.{_≢_, _⊎_, inl, inr, ⊎-elim, ⊎-map}
 use native.Mathlib.Decide.{ℕ-discrete}
 use Rattle.bubble.specs.Superbubble.{F, F.start, F.on, B, Reaches, Reaches.none, Reaches.then, Bubbloid, Interior}
-use Rattle.bubble.proofs.Reversal.{F-reversed, reaches-reversed}
+use Rattle.bubble.proofs.Reversal.{F-reversed, reaches-reversed, interior-reversed}
 use Rattle.bubble.proofs.Facts.{closed-backward, no-edge-to-entrance, no-edge-from-exit}
 use Rattle.rule.specs.Lists.{Graph}
-use Rattle.rule.proofs.Thread.{Thread, thread-reversed, interior-reversed, Clear, clear-reversed}
+use Rattle.rule.proofs.Thread.{Thread, thread-reversed, Clear, clear-reversed}
 
 module _ {E E′ : Graph} {s t : ℕ} {N : Graph} (k : Thread E E′ s t N) where
   pub bubbloid-of : Bubbloid E s t

@@ -6,12 +6,13 @@ use mathlib.Core.List.{List, [], _∷_, map, List·Memᴰ, List·Memᴰ·head, L
 use native.Mathlib.Omega.{arith}
 use lib.ListN.{length, take}
 use Rattle.bubble.specs.Superbubble.{Interior}
+use Rattle.bubble.proofs.Pigeonhole.{place-of}
 use Rattle.rule.specs.Lists.{Graph, CandidateSet, Counts, Listing, Same}
 use Rattle.rule.specs.Fold.{Rule, Item, Entrance, Applied, Folded}
 use Rattle.rule.specs.Laws.{RuleLaws, CandidateLaws}
 use Rattle.rule.proofs.Items.{item-unique}
 use Rattle.rule.proofs.WhereIs.{Where, Where.on-arm, Where.is-dropped, Where.neither, where-is}
-use Rattle.rule.proofs.Listings.{listing-unique, listing-same, place-of}
+use Rattle.rule.proofs.Listings.{listing-unique, listing-same}
 
 -- where entries are told apart by f, lists with the same f are the same
 map-injective : {A : Type 0} (f : A → ℕ) (l k : List A) → ((a b : A) → List·Memᴰ a l → List·Memᴰ b k → f a ≡ f b → a ≡ b) → map f l ≡ map f k → l ≡ k

@@ -6,12 +6,13 @@ use mathlib.Core.List.{_++_, map-append, List·Memᴰ, List·Memᴰ·append-case
 use lib.ListN.{length, take, drop, getD}
 use lib.Seq.{take-add}
 use Rattle.bubble.specs.Superbubble.{Interior}
+use Rattle.bubble.proofs.Pigeonhole.{getD-in}
 use Rattle.rule.specs.Lists.{Graph, CandidateSet, Counts, sum}
 use Rattle.rule.specs.Fold.{Rule, Item, Fits, Applied}
 use Rattle.rule.specs.Laws.{SameInside, RuleLaws, CandidateLaws}
 use Rattle.rule.proofs.Inside.{inside-back, interior-inside}
 use Rattle.rule.proofs.Together.{entrances, Staying}
-use Rattle.rule.proofs.Listings.{listing-unique, listing-same, getD-in}
+use Rattle.rule.proofs.Listings.{listing-unique, listing-same}
 use Rattle.rule.proofs.Sums.{sum-same}
 use Rattle.rule.proofs.Items.{item-arm, dropped-inner}
 use Rattle.rule.proofs.Remaining.{after-applied, remaining-listed, other-untouched}

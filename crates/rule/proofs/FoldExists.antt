@@ -1,13 +1,12 @@
 -- Every finite graph without a cycle, with decided edges, has a fold with every budget: the rule asks for nothing that cannot be. Assumes nothing.
-use Prim.Native.Nat.{ℕ, zero, suc, _+_, _<_}
+use Prim.Native.Nat.{ℕ, _+_, _<_}
 use mathlib.Core.Path.{_≡_, refl, sym, ap, ap₂, subst}
 use mathlib.Core.Logic.{⊎-elim}
-use mathlib.Core.List.{List, [], _∷_, List·Memᴰ, List·Memᴰ·head, List·Memᴰ·tail, List·Memᴰ·not-nil, List·Memᴰ·cases-cons, Memᴰ·cast, Memᴰ·append-left}
-use native.Mathlib.Omega.{arith}
+use mathlib.Core.List.{List, [], _∷_, List·Memᴰ, List·Memᴰ·head, List·Memᴰ·tail, List·Memᴰ·not-nil, List·Memᴰ·cases-cons, Memᴰ·append-left}
 use lib.ListN.{length, take, drop, getD, take-append-drop}
 use Rattle.bubble.specs.Superbubble.{Interior}
-use Rattle.bubble.proofs.Pigeonhole.{Distinct, Distinct.empty, Distinct.fresh}
-use Rattle.bubble.proofs.Number.{Below}
+use Rattle.bubble.proofs.Pigeonhole.{getD-in, place-of, distinct-apart}
+use Rattle.bubble.proofs.Number.{Below, interior-below}
 use Rattle.bubble.proofs.Reflect.{decided, decides-member}
 use Rattle.rule.specs.Lists.{Graph, CandidateSet, Counts, Listing, sum}
 use Rattle.rule.specs.Fold.{Rule, NoCycle, Candidate, Entrance, first-takes-all, Item, Fits, Applied, Folded}
@@ -16,19 +15,11 @@ use Rattle.rule.proofs.Together.{entrances, Staying}
 use Rattle.rule.proofs.WhereIs.{Where, Where.on-arm, Where.is-dropped, Where.neither, where-is}
 use Rattle.rule.proofs.Items.{item-arm, dropped-inner, arm-distinct-inner, one-item}
 use Rattle.rule.proofs.Budgets.{folded-of}
-use Rattle.rule.proofs.Listings.{listing-exists, getD-in, place-of}
+use Rattle.rule.proofs.Listings.{listing-exists}
 use Rattle.rule.proofs.BestLaws.{first-takes-all-laws}
 use Rattle.rule.proofs.Candidates.{candidate-laws}
 use Rattle.rule.proofs.KeptExists.{kept-exists}
-use Rattle.rule.proofs.CandidatesListed.{interior-is-decided, interior-below, candidates-listed}
-
--- different entries stand at different places
-distinct-places : {l : List ℕ} (j k : ℕ) → Distinct l → j < length l → k < length l → getD l j 0 ≡ getD l k 0 → j ≡ k
-distinct-places j k empty h g q = absurd (omega arith)
-distinct-places zero zero (fresh n d) h g q = refl
-distinct-places zero (suc k) (fresh {l = l} n d) h g q = absurd (n (Memᴰ·cast q (getD-in l k (omega arith))))
-distinct-places (suc j) zero (fresh {l = l} n d) h g q = absurd (n (Memᴰ·cast (sym q) (getD-in l j (omega arith))))
-distinct-places (suc j) (suc k) (fresh n d) h g q = ap suc (distinct-places j k d (omega arith) (omega arith) q)
+use Rattle.rule.proofs.CandidatesListed.{interior-is-decided, candidates-listed}
 
 module _ {G : Graph → Type 0} {C : CandidateSet} {R : Rule} (L : CandidateLaws G C) (M : RuleLaws R) {E : Graph} {c : Counts} (g : G E)
     (items : List Item) (fit : (i : Item) → List·Memᴰ i items → Fits C R E c i) where
@@ -54,7 +45,7 @@ module _ {G : Graph → Type 0} {C : CandidateSet} {R : Rule} (L : CandidateLaws
       let v = getD (i .arm) j 0 in
       let q : k ≡ i = one-item L M g (fit k n) (fit i m) (item-arm L M (fit k n) .inner v a) (item-arm L M (fit i m) .inner v (getD-in (i .arm) j h)) in
       let at-i : (b : List·Memᴰ v (i .arm)) → share i (place-of b .0) ≡ share i j =
-      λ b. let (x, y, z) = place-of b in ap (share i) (distinct-places x j (arm-distinct-inner L M (fit i m)) y h z) in
+      λ b. let (x, y, z) = place-of b in ap (share i) (distinct-apart (arm-distinct-inner L M (fit i m)) x j y h z) in
       ap (λ (x : ℕ). c v + x) (subst (λ (x : Item). (b : List·Memᴰ v (x .arm)) → share x (place-of b .0) ≡ share i j) (sym q) at-i a)
   added i m j h (is-dropped k n d) = absurd (not-both i k m n (getD-in (i .arm) j h) d)
   added i m j h (neither n) = absurd (n i m .0 (getD-in (i .arm) j h))
@@ -92,7 +83,7 @@ module _ {E : Graph} (decide : (u v : ℕ) → Dec (E u v)) {n : ℕ} (below : B
   item-for s h =
       let (t, k) = h in
       let (arm, best) = kept-exists decide below c (k .outermost .superbubble .bubbloid) in
-      let (dropped, rest) = listing-exists n (off-arm t arm) (λ v p. interior-below decide below (p .0)) in
+      let (dropped, rest) = listing-exists n (off-arm t arm) (λ v p. interior-below below (p .0)) in
       (record { entrance = s; exit = t; arm = arm; dropped = dropped }, refl, record { candidate = k; kept = best; rest = rest })
     where
       off-arm : (t : ℕ) (arm : List ℕ) (v : ℕ) → Dec (Interior E s t v × (List·Memᴰ v arm → ⊥))

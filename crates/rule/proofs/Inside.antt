@@ -7,7 +7,7 @@ use Rattle.bubble.specs.Superbubble.{F, F.start, Interior}
 use Rattle.rule.specs.Lists.{Graph}
 use Rattle.rule.specs.Kept.{Via, Via.bare, Via.then, Arm}
 use Rattle.rule.specs.Laws.{SameInside}
-use Rattle.rule.proofs.Fewer.{F-fewer, interior-also}
+use Rattle.bubble.proofs.Fewer.{F-fewer, interior-also}
 use Rattle.rule.proofs.Arms.{arm-inside}
 
 pub same-edges-inside : {E E′ : Graph} (s t : ℕ) → ((u v : ℕ) → E u v ↔ E′ u v) → SameInside E E′ s t

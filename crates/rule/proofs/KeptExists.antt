@@ -1,10 +1,9 @@
 -- In a finite graph with decided edges every superbubble has a kept path: best sums and next vertices are found by going k steps deep, and U is not deep. Assumes nothing.
 use Prim.Native.Nat.{ℕ, zero, suc, _+_, _≤_, _<_}
-use mathlib.Core.Path.{_≡_, sym, _∙_, ap}
+use mathlib.Core.Path.{_≡_}
 use mathlib.Core.Logic.{_≢_, _⊎_, inl, inr, ⊎-elim}
 use mathlib.Core.List.{List, [], _∷_, List·Memᴰ, List·Memᴰ·not-nil, List·Memᴰ·cases-cons, List·Memᴰ·eq-of-singleton}
 use native.Mathlib.Omega.{arith}
-use native.Mathlib.Decide.{ℕ-discrete}
 use lib.ListN.{length}
 use Rattle.bubble.specs.Superbubble.{F, F.start, F.on, Walk, Walk.edge, Walk.more, Bubbloid}
 use Rattle.bubble.proofs.Facts.{successor}
@@ -14,14 +13,7 @@ use Rattle.rule.specs.Lists.{Graph, Counts, Listing}
 use Rattle.rule.specs.Kept.{Kept}
 use Rattle.rule.proofs.Listings.{listing-exists}
 use Rattle.rule.proofs.Pick.{Picked, pick}
-use Rattle.rule.proofs.ByNext.{worth, worth-exit, worth-other, Settled, picked-settled, Short, by-next-kept, by-next-ends}
-
-worth-same : (c : Counts) {t u : ℕ} (best best′ : ℕ → ℕ) → (u ≢ t → best u ≡ best′ u) → worth c t best u ≡ worth c t best′ u
-worth-same c {t} {u} best best′ h =
-    elim (ℕ-discrete u t) [
-      | yes q ↦ worth-exit c best q ∙ sym (worth-exit c best′ q)
-      | no n ↦ worth-other c best n ∙ ap (λ (x : ℕ). c u + x) (h n) ∙ sym (worth-other c best′ n)
-    ]
+use Rattle.rule.proofs.ByNext.{worth, Settled, picked-settled, Short, by-next-kept, by-next-ends, worth-same}
 
 -- the best entry, if there is one
 choice : (ℕ → ℕ) → List ℕ → ℕ

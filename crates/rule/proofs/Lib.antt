@@ -1,6 +1,5 @@
 -- What follows from the fold rule. Each file begins with what it shows; a file cites only files above it here. Assumes nothing.
 -- one superbubble is folded, in any graph
-pub mod Fewer
 pub mod Thread
 pub mod Carry
 pub mod Transfer
@@ -28,7 +27,6 @@ pub mod ByNumber
 pub mod Choice
 pub mod Through
 pub mod BestLaws
-pub mod SameEdges
 pub mod Reach
 pub mod Passable
 pub mod Candidates

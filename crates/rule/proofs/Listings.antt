@@ -1,4 +1,4 @@
--- A listing is the only one of its kind, what is left of it after its first entries is a listing too, and what is decided below n has one; places on a list. Assumes nothing.
+-- A listing is the only one of its kind, what is left of it after its first entries is a listing too, and what is decided below n has one. Assumes nothing.
 use Prim.Native.Nat.{ℕ, zero, suc, _<_}
 use mathlib.Core.Path.{_≡_, refl, sym, ap₂}
 use mathlib.Core.Logic.{_≢_, _↔_, ⊎-elim}
@@ -6,7 +6,7 @@ use mathlib.Core.List.{List, [], _∷_, _++_, List·Memᴰ, List·Memᴰ·head, 
 use native.Mathlib.Nat.{lt-irrefl}
 use native.Mathlib.Omega.{arith}
 use native.Mathlib.Decide.{ℕ-discrete}
-use lib.ListN.{length, take, drop, getD, take-append-drop}
+use lib.ListN.{take, drop, take-append-drop}
 use Rattle.bubble.proofs.Pigeonhole.{Distinct, Distinct.empty, Distinct.fresh}
 use Rattle.rule.specs.Lists.{Rising, Rising.empty, Rising.first, Listing}
 
@@ -45,7 +45,7 @@ rising-last {v} (first {v = x} {l = l} g r) h =
     first (λ w m. ⊎-elim (g w) (at-last w) (List·Memᴰ·append-cases l m)) (rising-last r (λ w m. h w (List·Memᴰ·tail m)))
 
 -- a listing of what lies below k grows by k, or stays as it is
-listing-grows : {P : ℕ → Type 0} {k : ℕ} {l : List ℕ} → P k → Listing (λ v. (v < k) × P v) l → Listing (λ v. (v < suc k) × P v) (l ++ (k ∷ []))
+pub listing-grows : {P : ℕ → Type 0} {k : ℕ} {l : List ℕ} → P k → Listing (λ v. (v < k) × P v) l → Listing (λ v. (v < suc k) × P v) (l ++ (k ∷ []))
 listing-grows {P} {k} {l} p a = record { rising = rising-last (a .rising) (λ w m. a .holds w .0 m .0); holds = λ v. (to v, back v) }
   where
     to : (v : ℕ) → List·Memᴰ v (l ++ (k ∷ [])) → (v < suc k) × P v
@@ -60,7 +60,7 @@ listing-grows {P} {k} {l} p a = record { rising = rising-last (a .rising) (λ w 
           | no n ↦ Memᴰ·append-left (k ∷ []) (a .holds v .1 (omega (arith, h .0), h .1))
         ]
 
-listing-stays : {P : ℕ → Type 0} {k : ℕ} {l : List ℕ} → (P k → ⊥) → Listing (λ v. (v < k) × P v) l → Listing (λ v. (v < suc k) × P v) l
+pub listing-stays : {P : ℕ → Type 0} {k : ℕ} {l : List ℕ} → (P k → ⊥) → Listing (λ v. (v < k) × P v) l → Listing (λ v. (v < suc k) × P v) l
 listing-stays {P} {k} {l} n a = listing-same (λ v. (λ h. (omega (arith, h .0), h .1), λ h. let m : v ≢ k = λ q. n (rw q at (h .1)) in (omega (arith, h .0), h .1))) a
 
 listing-below : {P : ℕ → Type 0} (k : ℕ) → ((v : ℕ) → Dec (P v)) → (l : List ℕ) × Listing (λ v. (v < k) × P v) l
@@ -102,12 +102,3 @@ module _ {P : ℕ → Type 0} {l : List ℕ} (a : Listing P l) (k : ℕ) where
       back v h =
           let m : List·Memᴰ v (take k l ++ drop k l) = rw take-append-drop (a .holds v .1 (h .0)) in
           ⊎-elim (λ i. absurd (h .1 i)) (λ i. i) (List·Memᴰ·append-cases (take k l) m)
-
-pub getD-in : (l : List ℕ) (j : ℕ) → j < length l → List·Memᴰ (getD l j 0) l
-getD-in [] j h = absurd (omega arith)
-getD-in (x ∷ l) zero h = List·Memᴰ·head refl
-getD-in (x ∷ l) (suc j) h = List·Memᴰ·tail (getD-in l j (omega arith))
-
-pub place-of : {v : ℕ} {l : List ℕ} → List·Memᴰ v l → (j : ℕ) × (j < length l) × (getD l j 0 ≡ v)
-place-of (List·Memᴰ·head q) = (0, omega arith, sym q)
-place-of (List·Memᴰ·tail m) = let (j, h, q) = place-of m in (suc j, omega arith, q)

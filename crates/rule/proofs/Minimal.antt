@@ -4,15 +4,15 @@ use mathlib.Core.Path.{_≡_, refl, sym, _∙_}
 use mathlib.Core.Logic.{_≢_, ⊎-elim}
 use native.Mathlib.Decide.{ℕ-discrete}
 use Rattle.bubble.specs.Superbubble.{F, F.start, F.on, Walk.edge, Walk.more, Reaches, Reaches.none, Reaches.then, Bubbloid, Superbubble, Interior}
-use Rattle.bubble.proofs.Reversal.{inside-reversed}
+use Rattle.bubble.proofs.Reversal.{inside-reversed, interior-reversed}
 use Rattle.bubble.proofs.Facts.{last-edge, exit-inside, closed-backward, no-edge-to-entrance, no-edge-from-exit, successor}
 use Rattle.bubble.proofs.Pairs.{front-pair, cross}
 use Rattle.bubble.proofs.Unique.{superbubble-reversed, exit-unique}
 use Rattle.bubble.proofs.Nesting.{passes}
 use Rattle.bubble.proofs.LoneEdge.{Lone, lone-set, lone-superbubble}
 use Rattle.rule.specs.Lists.{Graph}
-use Rattle.rule.proofs.Fewer.{F-fewer}
-use Rattle.rule.proofs.Thread.{Thread, thread-reversed, interior-reversed, Clear}
+use Rattle.bubble.proofs.Fewer.{F-fewer}
+use Rattle.rule.proofs.Thread.{Thread, thread-reversed, Clear}
 use Rattle.rule.proofs.Carry.{bubbloid-of, fewer, stays, on-thread, carried, carried-outside, reached-on-thread}
 use Rattle.rule.proofs.Transfer.{bubbloid-after, bubbloid-before}
 

@@ -2,15 +2,15 @@
 use Prim.Native.Nat.{ℕ}
 use mathlib.Core.Path.{_≡_, sym, _∙_, subst}
 use mathlib.Core.Logic.{_≢_, _↔_, ⊎-elim}
-use mathlib.Core.List.{List, [], _∷_, _++_, List·Memᴰ, List·Memᴰ·tail, List·Memᴰ·cases-cons, List·Memᴰ·append-cases, List·Memᴰ·eq-of-singleton}
+use mathlib.Core.List.{List, [], _∷_, _++_, List·Memᴰ, List·Memᴰ·cases-cons, List·Memᴰ·append-cases, List·Memᴰ·eq-of-singleton}
 use native.Mathlib.Decide.{ℕ-discrete}
 use Rattle.bubble.specs.Superbubble.{F, F.on, Interior, Bubbloid}
-use Rattle.bubble.proofs.Facts.{closed-backward, no-edge-from-exit}
+use Rattle.bubble.proofs.Facts.{no-edge-from-exit}
 use Rattle.rule.specs.Lists.{Graph, CandidateSet, Counts, Follows}
 use Rattle.rule.specs.Fold.{Rule, Item, Fits}
 use Rattle.rule.specs.Laws.{RuleLaws, CandidateLaws}
 use Rattle.rule.proofs.Thread.{Thread}
-use Rattle.rule.proofs.Following.{follows-tail, follows-head}
+use Rattle.rule.proofs.Following.{follows-tail}
 use Rattle.rule.proofs.Arms.{arm-thread}
 use Rattle.rule.proofs.Together.{First, first-folded, Staying}
 use Rattle.rule.proofs.Items.{item-superbubble, item-arm, item-unique}
@@ -41,11 +41,6 @@ module _ {G : Graph → Type 0} {C : CandidateSet} {R : Rule} (L : CandidateLaws
     row-empty u v d e =
         let inner = fit i m .rest .holds u .0 d .0 in
         off-path d (follows-tail (e .1 i m (inner .inside) (on (inner .inside) (inner .not-exit) (e .0))))
-
-    pub column-empty : (u v : ℕ) → List·Memᴰ v (i .dropped) → Staying E items u v → ⊥
-    column-empty u v d e =
-        let inner = fit i m .rest .holds v .0 d .0 in
-        off-path d (List·Memᴰ·tail (follows-head (e .1 i m (closed-backward bubbloid (inner .inside) (inner .not-entrance) (e .0)) (inner .inside))))
 
     not-exit : {u w : ℕ} → Next i u w → u ≢ i .exit
     not-exit f r = no-edge-from-exit bubbloid (thread .head-inside f) (rw r at (thread .joined f))

@@ -9,7 +9,7 @@ use Rattle.bubble.proofs.Unique.{entrance-unique}
 use Rattle.bubble.proofs.Nesting.{Apart}
 use Rattle.rule.specs.Lists.{Graph}
 use Rattle.rule.specs.Laws.{SameInside}
-use Rattle.rule.proofs.Fewer.{F-fewer}
+use Rattle.bubble.proofs.Fewer.{F-fewer}
 use Rattle.rule.proofs.Thread.{Thread, Clear}
 use Rattle.rule.proofs.Carry.{bubbloid-of, fewer, carried-outside}
 

@@ -1,22 +1,16 @@
--- A superbubble is outermost if its entrance is interior to no other. Where none with an interior is outermost, none has an interior: one around another has a new entrance, and there are only n vertices. Assumes nothing.
+-- Where no superbubble with an interior is outermost, none has an interior: one around another has a new entrance, and there are only n vertices. Assumes nothing.
 use Prim.Native.Nat.{ℕ, zero, suc, _+_, _<_}
 use mathlib.Core.Path.{refl}
-use mathlib.Core.Logic.{_↔_, ⊎-elim}
+use mathlib.Core.Logic.{⊎-elim}
 use mathlib.Core.List.{List, [], _∷_, List·Memᴰ, List·Memᴰ·not-nil, List·Memᴰ·cases-cons}
 use native.Mathlib.Omega.{arith}
 use lib.ListN.{length}
-use Rattle.bubble.specs.Superbubble.{F, F.start, Interior, Superbubble, Outermost}
-use Rattle.bubble.proofs.Nesting.{Nested, nest}
+use Rattle.bubble.specs.Superbubble.{F, F.start, Interior, Superbubble}
+use Rattle.bubble.proofs.Nesting.{Nested}
 use Rattle.bubble.proofs.Pigeonhole.{Distinct, Distinct.empty, Distinct.fresh, distinct-below}
 use Rattle.bubble.proofs.Number.{Below, entrance-below}
 use Rattle.rule.specs.Lists.{Graph}
 use Rattle.rule.specs.Fold.{Candidate}
-
-pub outermost-by-entrance : {E : Graph} {s t : ℕ} → Outermost E s t ↔ (Superbubble E s t × ((x y : ℕ) → Superbubble E x y → Interior E x y s → ⊥))
-outermost-by-entrance {s = s} = (
-  λ o. (o .superbubble, λ x y q i. o .in-no-other x y q (nest (o .superbubble) q i)),
-  λ h. record { superbubble = h .0; in-no-other = λ x y q n. h .1 x y q (n s start) },
-)
 
 module _ {E : Graph} {n : ℕ} (below : Below E n) (none : (s t : ℕ) → Candidate E s t → ⊥) where
   within : {s t x y : ℕ} {l : List ℕ} → Superbubble E x y → Nested E s t x y → ((v : ℕ) → List·Memᴰ v l → (v < n) × F E s t v) → (v : ℕ)

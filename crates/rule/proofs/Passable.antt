@@ -5,19 +5,19 @@ use mathlib.Core.Path.{_≡_, sym, _∙_}
 use mathlib.Core.Logic.{_≢_, ⊎-elim}
 use native.Mathlib.Decide.{ℕ-discrete}
 use Rattle.bubble.specs.Superbubble.{F, F.start, Reaches, Interior, Superbubble}
-use Rattle.bubble.proofs.Reversal.{inside-reversed}
+use Rattle.bubble.proofs.Reversal.{inside-reversed, interior-reversed}
 use Rattle.bubble.proofs.Facts.{no-edge-from-exit}
 use Rattle.bubble.proofs.Unique.{superbubble-reversed, exit-unique, entrance-unique}
 use Rattle.bubble.proofs.Nesting.{Nested, nest, meets-nested}
 use Rattle.rule.specs.Lists.{Graph}
 use Rattle.rule.specs.Laws.{CandidateLaws}
-use Rattle.rule.proofs.Fewer.{F-fewer, reaches-fewer, interior-also}
-use Rattle.rule.proofs.Thread.{Thread, interior-reversed, Clear}
+use Rattle.bubble.proofs.Fewer.{F-fewer, reaches-fewer, interior-also}
+use Rattle.rule.proofs.Thread.{Thread, Clear}
 use Rattle.rule.proofs.Carry.{bubbloid-of, fewer, carried, carried-outside}
 use Rattle.rule.proofs.Minimal.{superbubble-after, superbubble-before, interior-clear}
 use Rattle.rule.proofs.Arms.{arm-thread}
 use Rattle.rule.proofs.Others.{apart-clear}
-use Rattle.rule.proofs.SameEdges.{SameEdges, turned-round, interior-same, superbubble-same}
+use Rattle.bubble.proofs.SameEdges.{SameEdges, turned-round, interior-same, superbubble-same}
 use Rattle.rule.proofs.Reach.{still-reaches}
 
 -- a superbubble with an interior; if it has a bare edge, its exit does not reach its entrance

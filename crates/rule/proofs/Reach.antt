@@ -2,13 +2,10 @@
 use Prim.Native.Nat.{ℕ}
 use mathlib.Core.Logic.{inl, ⊎-elim}
 use Rattle.bubble.specs.Superbubble.{Reaches, Reaches.none, Reaches.then, Interior}
+use Rattle.bubble.proofs.Walks.{reaches-append}
 use Rattle.rule.specs.Lists.{Graph}
 use Rattle.rule.proofs.Thread.{Thread}
 use Rattle.rule.proofs.Carry.{stays, Met, met-step}
-
-reaches-append : {E : Graph} {u v w : ℕ} → Reaches E u v → Reaches E v w → Reaches E u w
-reaches-append r none = r
-reaches-append r (then k e) = then (reaches-append r k) e
 
 module _ {E E′ : Graph} {s t : ℕ} {N : Graph} (k : Thread E E′ s t N) where
   thread-reaches : {u v : ℕ} → Reaches N u v → Reaches E′ u v

@@ -5,13 +5,14 @@ use mathlib.Core.Logic.{_↔_, ⊎-elim}
 use mathlib.Core.List.{List, [], _∷_, _++_, List·Memᴰ, List·Memᴰ·not-nil, List·Memᴰ·cases-cons, Memᴰ·cast}
 use native.Mathlib.Numerals.{add-one}
 use native.Mathlib.Omega.{arith}
-use lib.ListN.{length, take, getD, length-take, length-drop}
-use lib.Seq.{take-add, take-length, ext-getD}
+use lib.ListN.{length, take, getD}
+use lib.Seq.{take-length, ext-getD}
 use Rattle.table.specs.Table.{vertices, row, In, Edge, Rises, WellFormed, countSum}
-use Rattle.table.proofs.RowLaws.{row-lies}
+use Rattle.table.proofs.RowLaws.{next-start, targets-to-next}
+use Rattle.bubble.proofs.Pigeonhole.{getD-in, place-of}
 use Rattle.rule.specs.Lists.{Rising, Rising.empty, Rising.first, total, Same}
 use Rattle.rule.specs.Tables.{count-of}
-use Rattle.rule.proofs.Listings.{rising-unique, getD-in, place-of}
+use Rattle.rule.proofs.Listings.{rising-unique}
 use Rattle.rule.proofs.Sums.{total-first}
 
 rises-tail : (x : ℕ) (l : List ℕ) → Rises (x ∷ l) → Rises l
@@ -30,16 +31,6 @@ rising-row (x ∷ l) h = first (λ w. first-smallest x l h) (rising-row l (rises
 in-list : {v : ℕ} {l : List ℕ} → In v l ↔ List·Memᴰ v l
 in-list {v} {l} =
     (λ i. Memᴰ·cast (sym (i .stands)) (getD-in l (i .place) (i .inside)), λ m. let (j, h, q) = place-of m in record { place = j; inside = h; stands = q })
-
-module _ {starts targets : List ℕ} (w : WellFormed starts targets) (v : ℕ) (h : v < vertices starts) where
-  next-start : getD starts (v + 1) 0 ≡ getD starts v 0 + length (row starts targets v)
-  next-start = let l = row-lies starts targets (w .starts-fit) v h in simp (length-take, length-drop) (omega (arith, l .ordered, l .within))
-
-  targets-to-next : take (getD starts (v + 1) 0) targets ≡ take (getD starts v 0) targets ++ row starts targets v
-  targets-to-next =
-      let l = row-lies starts targets (w .starts-fit) v h in
-      let q : getD starts (v + 1) 0 ≡ getD starts v 0 + (getD starts (v + 1) 0 - getD starts v 0) = omega (arith, l .ordered) in
-      ap (λ (n : ℕ). take n targets) q ∙ take-add (getD starts v 0) (getD starts (v + 1) 0 - getD starts v 0) targets
 
 module _ {starts targets starts′ targets′ : List ℕ} (w : WellFormed starts targets) (w′ : WellFormed starts′ targets′)
     (n : length starts ≡ length starts′) (same : (u v : ℕ) → Edge starts targets u v ↔ Edge starts′ targets′ u v) where

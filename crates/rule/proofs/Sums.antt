@@ -38,7 +38,7 @@ sum-added c d p (x ∷ l) h =
     let rest = sum-added c d (λ j. p (suc j)) l (λ j k. h (suc j) (omega arith)) in
     omega (arith, here, rest, total-first p (length l))
 
--- a total, and the total without one vertex
+-- a total, and the total off one vertex
 total-one : {c d : Counts} {a : ℕ} (n : ℕ) → a < n → d a ≡ 0 → ((v : ℕ) → v ≢ a → d v ≡ c v) → total c n ≡ c a + total d n
 total-one zero h z k = absurd (omega arith)
 total-one {c} {d} {a} (suc n) h z k =

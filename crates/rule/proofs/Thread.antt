@@ -2,7 +2,7 @@
 use Prim.Native.Nat.{ℕ}
 use mathlib.Core.Path.{_≡_}
 use mathlib.Core.Logic.{_≢_, _↔_}
-use Rattle.bubble.specs.Superbubble.{F, Reaches, Bubbloid, Superbubble, Interior}
+use Rattle.bubble.specs.Superbubble.{F, Reaches, Bubbloid, Superbubble}
 use Rattle.bubble.proofs.Reversal.{rev, reaches-reversed, inside-reversed}
 use Rattle.bubble.proofs.Unique.{superbubble-reversed}
 use Rattle.rule.specs.Lists.{Graph}
@@ -40,12 +40,6 @@ thread-reversed {E} {E′} {s} {t} {N} k =
       whole = reaches-reversed (k .whole);
       passed-once = λ e r. k .passed-once e (reaches-reversed r);
     }
-
-pub interior-reversed : {E : Graph} {s t v : ℕ} → Bubbloid E s t → Interior E s t v ↔ Interior (rev E) t s v
-interior-reversed b = (
-  λ i. record { inside = inside-reversed b .0 (i .inside); not-entrance = i .not-exit; not-exit = i .not-entrance },
-  λ i. record { inside = inside-reversed b .1 (i .inside); not-entrance = i .not-exit; not-exit = i .not-entrance },
-)
 
 -- the pair x, y may have t for its entrance and s for its exit, and no other vertex of U
 pub record Clear (E : Graph) (s t x y : ℕ) : Type 0 where

@@ -5,9 +5,8 @@ use mathlib.Core.Logic.{⊎-elim}
 use mathlib.Core.List.{List, [], _∷_, _++_, List·Memᴰ, List·Memᴰ·head, List·Memᴰ·tail, List·Memᴰ·not-nil, List·Memᴰ·append-cases, Memᴰ·append-left, Memᴰ·append-right, Memᴰ·map, Memᴰ·cast}
 use native.Mathlib.Omega.{arith}
 use lib.ListN.{length}
-use Rattle.bubble.proofs.Facts.{predecessor}
 use Rattle.bubble.proofs.Pigeonhole.{Distinct, Distinct.empty, Distinct.fresh, distinct-append}
-use Rattle.bubble.proofs.Number.{Below}
+use Rattle.bubble.proofs.Number.{Below, interior-below}
 use Rattle.rule.specs.Lists.{Graph, CandidateSet, Counts, sum, total}
 use Rattle.rule.specs.Fold.{Rule, Item, Fits, Applied}
 use Rattle.rule.specs.Laws.{RuleLaws, CandidateLaws}
@@ -81,9 +80,7 @@ module _ {G : Graph → Type 0} {C : CandidateSet} {R : Rule} (L : CandidateLaws
     touched-below : {n : ℕ} → Below E n → (v : ℕ) → List·Memᴰ v (touched (a .items)) → v < n
     touched-below below v m =
         let (i, k, h) = of-touched (a .items) m in
-        let inner = arm-or-dropped L M (a .fit i k) h in
-        let (u, f, e) = predecessor (item-superbubble L M (a .fit i k) .bubbloid) (inner .inside) (inner .not-entrance) in
-        below u v e .1
+        interior-below below (arm-or-dropped L M (a .fit i k) h)
 
     pub total-kept : (n : ℕ) → Below E n → total c′ n ≡ total c n
     total-kept n below =

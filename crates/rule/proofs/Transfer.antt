@@ -9,7 +9,7 @@ use Rattle.bubble.proofs.Reversal.{rev, F-reversed, B-reversed}
 use Rattle.bubble.proofs.Facts.{exit-inside, closed-backward, no-edge-to-entrance, no-edge-from-exit}
 use Rattle.bubble.proofs.FromSet.{make}
 use Rattle.rule.specs.Lists.{Graph}
-use Rattle.rule.proofs.Fewer.{F-fewer, B-fewer, walk-fewer}
+use Rattle.bubble.proofs.Fewer.{F-fewer, B-fewer, walk-fewer}
 use Rattle.rule.proofs.Thread.{Thread, thread-reversed, Clear, clear-reversed}
 use Rattle.rule.proofs.Carry.{bubbloid-of, fewer, stays, no-edge-inside, Met, met-step, along-thread, along-thread-back, carried, carried-outside, carried-back, reached-on-thread}
 

@@ -13,5 +13,4 @@ pub mod TurnLaws
 pub mod EndLaws
 pub mod UndoLaws
 -- what the contract settles
-pub mod InsideLaws
 pub mod AnswerLaws

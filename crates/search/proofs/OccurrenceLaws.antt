@@ -1,6 +1,6 @@
 -- Laws of how often a vertex stands in a list. Assumes nothing.
 use Prim.Native.Nat.{ℕ, zero, suc, _+_, _-_, _≤_, _<_}
-use mathlib.Core.Path.{_≡_, refl, sym, _∙_}
+use mathlib.Core.Path.{_≡_, sym, _∙_}
 use mathlib.Core.Logic.{_≢_}
 use mathlib.Core.Bool.{cond}
 use mathlib.Core.List.{List, [], _∷_, _++_}
@@ -12,7 +12,7 @@ use borrow.Author.Tests.{eq-eqb, ne-eqb}
 use lib.ListN.{length, getD, take, length-take}
 use lib.Seq.{getD-take, take-suc, length-take-le, ext-getD}
 use lib.Dec.{eqb}
-use Rattle.table.specs.Table.{In, Rises}
+use Rattle.table.specs.Table.{In}
 use Rattle.search.specs.Search.{occurrences}
 
 -- 1 if x is v, else 0
@@ -67,6 +67,14 @@ occurs-in v (x ∷ xs) h =
           record { place = suc (i .place); inside = omega (arith, i .inside); stands = i .stands }
     ]
 
+-- so it is decided whether it does
+pub in-decided : (v : ℕ) (list : List ℕ) → Dec (In v list)
+in-decided v list =
+    elim (decLt 0 (occurrences v list)) [
+      | yes h ↦ yes (occurs-in v list h)
+      | no n ↦ no (λ i. n (in-occurs v list i))
+    ]
+
 -- a place below k, as a place of the first k
 pub in-take : (xs : List ℕ) (k i : ℕ) → i < k → k ≤ length xs → In (getD xs i 0) (take k xs)
 in-take xs k i h l = record { place = i; inside = omega (arith, length-take k xs); stands = getD-take k xs i 0 h }
@@ -90,15 +98,3 @@ apart-new xs k l h =
       | yes m ↦ let (i, b, q) = take-in (getD xs k 0) xs k (omega arith) (occurs-in (getD xs k 0) (take k xs) m) in absurd (h i b q)
       | no n ↦ omega arith
     ]
-
--- in a row that rises a number is larger than those before it
-climbs : (xs : List ℕ) → Rises xs → (i d : ℕ) → i + suc d < length xs → getD xs i 0 < getD xs (i + suc d) 0
-climbs xs r i zero h = let q : i + 1 ≡ i + suc 0 = refl in r i (omega arith)
-climbs xs r i (suc d) h =
-    let q : i + suc (suc d) ≡ (i + suc d) + 1 = omega arith in
-    rw q (omega (arith, climbs xs r i d (omega arith), r (i + suc d) (omega arith)))
-
-pub rises-apart : (xs : List ℕ) → Rises xs → (i k : ℕ) → i < k → k < length xs → getD xs i 0 ≢ getD xs k 0
-rises-apart xs r i k h l q =
-    let e : i + suc (k - suc i) ≡ k = omega arith in
-    omega (arith, rw e at (climbs xs r i (k - suc i) (omega arith)))

@@ -6,9 +6,10 @@ use mathlib.Core.List.{List, []}
 use native.Mathlib.Numerals.{add-one}
 use native.Mathlib.Omega.{arith}
 use native.Mathlib.Decide.{decLt}
-use lib.ListN.{length, getD, take, drop}
-use lib.Seq.{take-add, take-length}
+use lib.ListN.{length, getD, take}
+use lib.Seq.{take-length}
 use Rattle.table.specs.Table.{vertices, row, In, Edge, WellFormed}
+use Rattle.table.proofs.RowLaws.{targets-to-next}
 use Rattle.search.specs.Search.{occurrences}
 use Rattle.search.specs.Steps.{sum, unless, unvisited}
 use Rattle.search.proofs.SumLaws.{sum-change, sum-term, sum-least, sum-some, sum-less, less-sum}
@@ -93,12 +94,9 @@ module _ (starts targets : List ℕ) where
     rows-sum : (v k : ℕ) → k ≤ vertices starts → sum k (λ u. occurrences v (row starts targets u)) ≡ occurrences v (take (getD starts k 0) targets)
     rows-sum v zero h = rw (well .starts-fit .begins)
     rows-sum v (suc k) h =
-        let a = getD starts k 0 in
-        let b = getD starts (k + 1) 0 in
-        let climbs : a ≤ b = well .starts-fit .climbs k (omega arith) in
-        let whole : a + (b - a) ≡ b = omega arith in
-        let parts : occurrences v (take b targets) ≡ occurrences v (take a targets) + occurrences v (row starts targets k) =
-        rw whole at (ap (occurrences v) (take-add a (b - a) targets) ∙ occurrences-append v (take a targets) (take (b - a) (drop a targets))) in
+        let here : k < vertices starts = omega arith in
+        let parts : occurrences v (take (getD starts (k + 1) 0) targets) ≡ occurrences v (take (getD starts k 0) targets) + occurrences v (row starts targets k) =
+        ap (occurrences v) (targets-to-next well k here) ∙ occurrences-append v (take (getD starts k 0) targets) (row starts targets k) in
         rw (← add-one k) (omega (arith, rows-sum v k (omega arith), parts))
 
     -- where nothing is visited, all edges count

@@ -9,12 +9,13 @@ use native.Mathlib.Decide.{ℕ-discrete, decLt}
 use lib.ListN.{length, getD, take, length-set}
 use lib.Seq.{getD-set-same, getD-set-other}
 use Rattle.table.specs.Table.{In}
+use Rattle.table.proofs.RowLaws.{rises-before}
 use Rattle.bubble.proofs.Pigeonhole.{places-below}
 use Rattle.search.specs.Search.{occurrences}
 use Rattle.search.specs.Steps.{sum, waits, waiters, Passable, Passed, Walkable, Walked}
 use Rattle.search.proofs.SumLaws.{sum-change, sum-term, sum-most}
 use Rattle.search.proofs.WaitLaws.{ready-yes, ready-no, ready-most, waits-most}
-use Rattle.search.proofs.OccurrenceLaws.{same-yes, same-no, occurrences-more, occurrences-least, in-take, take-in, rises-apart}
+use Rattle.search.proofs.OccurrenceLaws.{same-yes, same-no, occurrences-more, occurrences-least, in-take, take-in}
 
 -- no edge is passed yet
 pub walk-none : {row parents left order : List ℕ} {tail waiting : ℕ} → Walkable row parents left order tail waiting → Walked row parents left order tail 0 left order tail waiting
@@ -40,7 +41,7 @@ module _ {row parents left order : List ℕ} {tail waiting k : ℕ} {left′ ord
         | yes m ↦ p .new i m (record { place = k; inside = h; stands = sym (sym (w .kept i m) ∙ q) })
         | no n ↦
             let (j, b, e) = take-in (getD order′ i 0) row k (omega arith) (w .listed i (omega arith) l) in
-            rises-apart row (p .rises) j k b h (e ∙ q)
+            omega (arith, rises-before row (p .rises) j k b h, e, q)
       ]
 
   vertex : (i : ℕ) → i < tail′ → getD order′ i 0 < length left

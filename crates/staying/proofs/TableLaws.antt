@@ -5,10 +5,10 @@ use mathlib.Core.List.{List, [], _∷_, _++_}
 use native.Mathlib.Nat.{not-suc-le-zero}
 use native.Mathlib.Numerals.{add-one}
 use native.Mathlib.Omega.{arith}
-use lib.ListN.{length, getD, drop, set, length-append, length-take, length-drop}
+use lib.ListN.{length, getD, drop, set, length-append, length-drop}
 use lib.Seq.{take-at, drop-at, drop-drop, take-length}
 use Rattle.table.specs.Table.{vertices, row}
-use Rattle.table.proofs.RowLaws.{row-lies, start-most, row-below}
+use Rattle.table.proofs.RowLaws.{start-most, row-below, next-start}
 use Rattle.table.proofs.FrontLaws.{front-more}
 use Rattle.staying.specs.Staying.{staying, Put, TableReady, EdgesStay, TableWritten}
 use Rattle.staying.proofs.LaidRows.{laid, begins, laid-more, begins-length, edge-laid, well-formed-laid}
@@ -67,9 +67,7 @@ module _ {starts targets next out-starts out-targets : List ℕ} (ready : TableR
   -- a row does not grow
   row-few : (v : ℕ) → v < vertices starts → getD starts v 0 + length (newRow starts targets next v) ≤ getD starts (v + 1) 0
   row-few v h =
-      let lies = row-lies starts targets (ready .well-formed .starts-fit) v h in
-      let long : getD starts v 0 + length (row starts targets v) ≡ getD starts (v + 1) 0 = simp (length-take, length-drop) (omega (arith, lies)) in
-      omega (arith, stays-few (vertices starts) (getD next v 0) (row starts targets v) (λ l. ready .next-edge v h l .listed))
+      omega (arith, next-start (ready .well-formed) v h, stays-few (vertices starts) (getD next v 0) (row starts targets v) (λ l. ready .next-edge v h l .listed))
 
   module _ {out-starts′ out-targets′ : List ℕ} {at v : ℕ} (done : Passed starts targets next out-starts out-targets out-starts′ out-targets′ at v) where
     pub place-most : at ≤ length targets

@@ -1,44 +1,19 @@
 -- How many numbers a statement holds of: such counts from lists of different numbers, the count of two sets joined, and that there is only one count. Assumes nothing.
-use Prim.Native.Nat.{ℕ, zero, suc, _+_, _≤_, _<_}
-use mathlib.Core.Path.{_≡_, refl, sym, ap}
+use Prim.Native.Nat.{ℕ, _+_, _≤_}
+use mathlib.Core.Path.{_≡_, sym}
 use mathlib.Core.Logic.{_↔_, _⊎_, inl, inr, ⊎-elim}
-use mathlib.Core.List.{List, [], _∷_, _++_, map, List·Memᴰ, List·Memᴰ·head, List·Memᴰ·tail, List·Memᴰ·append-cases, Memᴰ·cast, Memᴰ·append-left, Memᴰ·append-right, Memᴰ·map, Memᴰ·of-map}
+use mathlib.Core.List.{List, _++_, map, List·Memᴰ, List·Memᴰ·append-cases, Memᴰ·cast, Memᴰ·append-left, Memᴰ·append-right, Memᴰ·map, Memᴰ·of-map}
 use native.Mathlib.Omega.{arith}
-use lib.ListN.{length, getD, length-append, length-map}
+use lib.ListN.{length, length-append, length-map}
 use Rattle.table.specs.Table.{In}
-use Rattle.bubble.proofs.Pigeonhole.{Distinct, distinct-within, distinct-append, distinct-map}
+use Rattle.bubble.proofs.Pigeonhole.{Distinct, distinct-within, distinct-append, distinct-map, getD-in, place-of, distinct-apart, apart-distinct}
 use Rattle.vertices.specs.Vertices.{Numbers}
 
 -- ---- a list's places and its entries
 
-at-place : {v : ℕ} (l : List ℕ) (i : ℕ) → i < length l → getD l i 0 ≡ v → List·Memᴰ v l
-at-place [] i h q = absurd (omega arith)
-at-place (x ∷ l) zero h q = List·Memᴰ·head (sym q)
-at-place (x ∷ l) (suc i) h q = List·Memᴰ·tail (at-place l i (omega arith) q)
-
-place-of : {v : ℕ} {l : List ℕ} → List·Memᴰ v l → In v l
-place-of (List·Memᴰ·head q) = record { place = zero; inside = omega arith; stands = sym q }
-place-of (List·Memᴰ·tail m) =
-    let r = place-of m in
-    record { place = suc (r .place); inside = omega arith; stands = r .stands }
-
-distinct-apart : {l : List ℕ} → Distinct l → (i j : ℕ) → i < length l → j < length l → getD l i 0 ≡ getD l j 0 → i ≡ j
-distinct-apart Distinct.empty i j h g q = absurd (omega arith)
-distinct-apart (Distinct.fresh n d) zero zero h g q = refl
-distinct-apart (Distinct.fresh {l = l} n d) zero (suc j) h g q = absurd (n (at-place l j (omega arith) (sym q)))
-distinct-apart (Distinct.fresh {l = l} n d) (suc i) zero h g q = absurd (n (at-place l i (omega arith) q))
-distinct-apart (Distinct.fresh n d) (suc i) (suc j) h g q = ap suc (distinct-apart d i j (omega arith) (omega arith) q)
-
-apart-distinct : (l : List ℕ) → ((i j : ℕ) → i < length l → j < length l → getD l i 0 ≡ getD l j 0 → i ≡ j) → Distinct l
-apart-distinct [] h = Distinct.empty
-apart-distinct (x ∷ l) h =
-    Distinct.fresh {a = x} {l = l}
-    (λ (m : List·Memᴰ x l). let r = place-of m in
-    let q : zero ≡ suc (r .place) = h zero (suc (r .place)) (omega arith) (omega arith) (sym (r .stands)) in
-    omega arith)
-    (apart-distinct l (λ i j a b q.
-    let e : suc i ≡ suc j = h (suc i) (suc j) (omega arith) (omega arith) q in
-    omega arith))
+pub in-list : {v : ℕ} {l : List ℕ} → In v l ↔ List·Memᴰ v l
+in-list {v} {l} =
+    (λ i. Memᴰ·cast (sym (i .stands)) (getD-in l (i .place) (i .inside)), λ m. let (j, h, q) = place-of m in record { place = j; inside = h; stands = q })
 
 -- ---- from a list of different numbers, and back
 
@@ -49,15 +24,14 @@ module _ {P : ℕ → Type 0} {k : ℕ} where
         listed = l;
         many = q;
         apart = λ i j a b e. distinct-apart d i j (omega arith) (omega arith) e;
-        exactly = λ v. (λ (r : In v l). h v .0 (at-place l (r .place) (r .inside) (r .stands)), λ p. place-of (h v .1 p));
+        exactly = λ v. (λ r. h v .0 (in-list .0 r), λ p. in-list .1 (h v .1 p));
       }
 
   numbers-distinct : (n : Numbers P k) → Distinct (n .listed)
   numbers-distinct n = apart-distinct (n .listed) (λ i j a b e. n .apart i j (omega (arith, n .many)) (omega (arith, n .many)) e)
 
   numbers-exactly : (n : Numbers P k) (v : ℕ) → List·Memᴰ v (n .listed) ↔ P v
-  numbers-exactly n v =
-      (λ m. n .exactly v .0 (place-of m), λ p. let r = n .exactly v .1 p in at-place (n .listed) (r .place) (r .inside) (r .stands))
+  numbers-exactly n v = (λ m. n .exactly v .0 (in-list .1 m), λ p. in-list .0 (n .exactly v .1 p))
 
   -- what holds of the same numbers holds of as many
   pub numbers-same : {Q : ℕ → Type 0} → Numbers P k → ((v : ℕ) → P v ↔ Q v) → Numbers Q k

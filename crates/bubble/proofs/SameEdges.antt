@@ -1,17 +1,16 @@
 -- Only which edges there are counts: graphs with the same edges have the same bubbloids and superbubbles. Assumes nothing.
 use Prim.Native.Nat.{ℕ}
 use mathlib.Core.Logic.{_↔_}
 use Rattle.bubble.specs.Superbubble.{Interior, Bubbloid, Superbubble}
-use Rattle.rule.specs.Lists.{Graph}
-use Rattle.rule.proofs.Fewer.{F-fewer, B-fewer, reaches-fewer, walk-fewer, interior-also}
+use Rattle.bubble.proofs.Fewer.{F-fewer, B-fewer, reaches-fewer, walk-fewer, interior-also}
 
-abbrev pub SameEdges : Graph → Graph → Type 0
+abbrev pub SameEdges : (ℕ → ℕ → Type 0) → (ℕ → ℕ → Type 0) → Type 0
 SameEdges E E′ = (u v : ℕ) → E u v ↔ E′ u v
 
-pub turned-round : {E E′ : Graph} → SameEdges E E′ → SameEdges E′ E
+pub turned-round : {E E′ : ℕ → ℕ → Type 0} → SameEdges E E′ → SameEdges E′ E
 turned-round h u v = (h u v .1, h u v .0)
 
-module _ {E E′ : Graph} (h : SameEdges E E′) where
+module _ {E E′ : ℕ → ℕ → Type 0} (h : SameEdges E E′) where
   to : (u v : ℕ) → E u v → E′ u v
   to u v = h u v .0
 
@@ -29,7 +28,7 @@ module _ {E E′ : Graph} (h : SameEdges E E′) where
     acyclicity = λ v w. b .acyclicity v (walk-fewer from (λ x. F-fewer from) w);
   }
 
-pub superbubble-same : {E E′ : Graph} {s t : ℕ} → SameEdges E E′ → Superbubble E s t → Superbubble E′ s t
+pub superbubble-same : {E E′ : ℕ → ℕ → Type 0} {s t : ℕ} → SameEdges E E′ → Superbubble E s t → Superbubble E′ s t
 superbubble-same h p = record {
   bubbloid = bubbloid-same h (p .bubbloid);
   minimality = λ x f n b. p .minimality x (F-fewer (from h) f) n (bubbloid-same (turned-round h) b);
