@@ -9,7 +9,7 @@ use lib.Dec.{eqb}
 use Rattle.bubble.specs.Superbubble.{F, F.start, F.on, B, Walk, Walk.edge, Walk.more, Bubbloid, Superbubble}
 use Rattle.bubble.proofs.Walks.{walk-end}
 use Rattle.bubble.proofs.Reversal.{F-reversed}
-use Rattle.bubble.proofs.FromSet.{make}
+use Rattle.bubble.proofs.FromSet.{make-bubbloid}
 use Rattle.bubble.proofs.Number.{Below}
 use Rattle.bubble.proofs.Reflect.{Decides, decided, decides-if, same-test, decides-not, decides-and, decides-or, test, decides-test, decides-equal, member, decides-member, every, decides-every}
 use Rattle.bubble.proofs.Closure.{Any, closure, decides-closure}
@@ -126,7 +126,7 @@ module _ {E : ℕ → ℕ → Type 0} {e : ℕ → ℕ → Bool} (d : (u v : ℕ
       to : (s ≢ t) × (Matched s t × Acyclic s t) → Bubbloid E s t
       to h =
           let (matched, acyclic) = h .1 in
-          make (h .0) (λ v f. matched .0 v (listed-F s t v .0 f)) (λ v b. matched .1 v (listed-B s t v .0 b)) (λ v w. acyclic v (listed-F s t v .0 (walk-end w)) w)
+          make-bubbloid (h .0) (λ v f. matched .0 v (listed-F s t v .0 f)) (λ v b. matched .1 v (listed-B s t v .0 b)) (λ v w. acyclic v (listed-F s t v .0 (walk-end w)) w)
 
       back : Bubbloid E s t → (s ≢ t) × (Matched s t × Acyclic s t)
       back b =

@@ -6,8 +6,8 @@ use Rattle.bubble.proofs.Walks.{walk-widen}
 use Rattle.bubble.proofs.Reversal.{B-reaches}
 
 -- F within B, B within F and no cycle make a bubbloid: reachability follows from matching
-pub make : {E : ℕ → ℕ → Type 0} {s t : ℕ} → s ≢ t → ((v : ℕ) → F E s t v → B E s t v) → ((v : ℕ) → B E s t v → F E s t v) → ((v : ℕ) → Walk E (F E s t) v v → ⊥) → Bubbloid E s t
-make {s = s} h f g a = record { distinct = h; reachability = B-reaches (f s start); matching = λ v. (f v, g v); acyclicity = a }
+pub make-bubbloid : {E : ℕ → ℕ → Type 0} {s t : ℕ} → s ≢ t → ((v : ℕ) → F E s t v → B E s t v) → ((v : ℕ) → B E s t v → F E s t v) → ((v : ℕ) → Walk E (F E s t) v v → ⊥) → Bubbloid E s t
+make-bubbloid {s = s} h f g a = record { distinct = h; reachability = B-reaches (f s start); matching = λ v. (f v, g v); acyclicity = a }
 
 -- U holds s and t, an edge leaves it only from t and enters it only at s, each of its vertices lies on both kinds of path, and it has no cycle
 pub record Enclosed (E : ℕ → ℕ → Type 0) (U : ℕ → Type 0) (s t : ℕ) : Type 0 where
@@ -33,4 +33,4 @@ module _ {E : ℕ → ℕ → Type 0} {U : ℕ → Type 0} {s t : ℕ} (c : Encl
   enclosed-set {v} = (forward-inside, c .reached v)
 
   pub enclosed-bubbloid : Bubbloid E s t
-  enclosed-bubbloid = make (c .distinct) (λ v f. c .reaching v (forward-inside f)) (λ v b. c .reached v (backward-inside b)) (λ v w. c .acyclic v (walk-widen (λ x. forward-inside) w))
+  enclosed-bubbloid = make-bubbloid (c .distinct) (λ v f. c .reaching v (forward-inside f)) (λ v b. c .reached v (backward-inside b)) (λ v w. c .acyclic v (walk-widen (λ x. forward-inside) w))

@@ -7,7 +7,7 @@ use Rattle.bubble.specs.Superbubble.{F, F.start, F.on, B, B.end, B.from,
 use Rattle.bubble.proofs.Walks.{walk-widen, F-no-return, F-onward, F-within}
 use Rattle.bubble.proofs.Reversal.{F-reversed, B-reversed, B-no-return, B-onward, inside-reversed, bubbloid-reversed}
 use Rattle.bubble.proofs.Facts.{last-edge, first-edge, exit-inside, closed-backward, no-edge-to-entrance, no-edge-from-exit}
-use Rattle.bubble.proofs.FromSet.{make}
+use Rattle.bubble.proofs.FromSet.{make-bubbloid}
 
 module _ {E : ℕ → ℕ → Type 0} {s t m : ℕ} (b : Bubbloid E s t) (inside : F E s t m) where
   -- the paths to a vertex of U lie in U
@@ -36,7 +36,7 @@ module _ {E : ℕ → ℕ → Type 0} {s t m : ℕ} (b : Bubbloid E s t) (inside
       back : (F E s m t → ⊥) → Bubbloid E s m
       back h =
           let forward : (v : ℕ) → F E s m v → B E s m v = λ v f. cut-forward h f (b .matching v .0 (F-within h f)) in
-          make (λ q. n (sym q)) forward (λ v c. cut-backward c (back-inside v c)) (λ v w. b .acyclicity v (walk-widen (λ x. F-within h) w))
+          make-bubbloid (λ q. n (sym q)) forward (λ v c. cut-backward c (back-inside v c)) (λ v w. b .acyclicity v (walk-widen (λ x. F-within h) w))
 
 -- of bubbloids s, t and m, t with m in U, the front s, m is one
 pub front-pair : {E : ℕ → ℕ → Type 0} {s t m : ℕ} → Bubbloid E s t → Bubbloid E m t → F E s t m → m ≢ s → Bubbloid E s m
@@ -64,7 +64,7 @@ cross-forward {E} {s} {x} {y} {v} c f g = along g (c .matching v .0 (F-onward f 
 
 -- of bubbloids s, t and x, y, each with an end in the other's U, the pair s, y is one
 pub cross : {E : ℕ → ℕ → Type 0} {s t x y : ℕ} → Bubbloid E s t → Bubbloid E x y → F E x y s → F E s t y → s ≢ y → Bubbloid E s y
-cross {E} {s} {t} {x} {y} b c f g n = make n (λ v. cross-forward c f) back (λ v w. c .acyclicity v (walk-widen (λ x. F-onward f) w))
+cross {E} {s} {t} {x} {y} b c f g n = make-bubbloid n (λ v. cross-forward c f) back (λ v w. c .acyclicity v (walk-widen (λ x. F-onward f) w))
   where
     back : (v : ℕ) → B E s y v → F E s y v
     back v h = B-reversed .0 (cross-forward (bubbloid-reversed .0 b) (inside-reversed b .0 g) (F-reversed .1 h))

@@ -5,7 +5,7 @@ use mathlib.Core.Logic.{_≢_, _↔_}
 use native.Mathlib.Decide.{ℕ-discrete}
 use Rattle.bubble.specs.Superbubble.{F, Bubbloid, Superbubble}
 use Rattle.bubble.proofs.Walks.{F-within}
-use Rattle.bubble.proofs.Reversal.{rev, inside-reversed, bubbloid-reversed}
+use Rattle.bubble.proofs.Reversal.{reversed, inside-reversed, bubbloid-reversed}
 use Rattle.bubble.proofs.Facts.{exit-inside}
 use Rattle.bubble.proofs.Pairs.{front-pair, rest-pair}
 
@@ -21,7 +21,7 @@ MinimalByEntrance E s t = (x : ℕ) → F E s t x → x ≢ s → Bubbloid E x t
 pub minimality-either : {E : ℕ → ℕ → Type 0} {s t : ℕ} → Bubbloid E s t → MinimalByExit E s t ↔ MinimalByEntrance E s t
 minimality-either b = (λ m x f n c. m x f (c .distinct) (front-pair b c f n), λ m x f n c. m x f (λ q. c .distinct (sym q)) (rest-pair b c f n))
 
-turned : {E : ℕ → ℕ → Type 0} {s t : ℕ} → Superbubble E s t → Superbubble (rev E) t s
+turned : {E : ℕ → ℕ → Type 0} {s t : ℕ} → Superbubble E s t → Superbubble (reversed E) t s
 turned p =
     let b = p .bubbloid in
     record {
@@ -29,7 +29,7 @@ turned p =
       minimality = λ x f n c. minimality-either b .0 (p .minimality) x (inside-reversed b .1 f) n (bubbloid-reversed .1 c);
     }
 
-pub superbubble-reversed : {E : ℕ → ℕ → Type 0} {s t : ℕ} → Superbubble E s t ↔ Superbubble (rev E) t s
+pub superbubble-reversed : {E : ℕ → ℕ → Type 0} {s t : ℕ} → Superbubble E s t ↔ Superbubble (reversed E) t s
 superbubble-reversed = (turned, turned)
 
 pub exit-unique : {E : ℕ → ℕ → Type 0} {s t t′ : ℕ} → Superbubble E s t → Superbubble E s t′ → t ≡ t′

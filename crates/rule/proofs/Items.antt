@@ -26,8 +26,8 @@ module _ {G : Graph → Type 0} {C : CandidateSet} {R : Rule} (L : CandidateLaws
     pub dropped-inner : {v : ℕ} → List·Memᴰ v (i .dropped) → Interior E (i .entrance) (i .exit) v
     dropped-inner {v} m = f .rest .holds v .0 m .0
 
-    pub arm-or-dropped : {v : ℕ} → List·Memᴰ v (i .arm ++ i .dropped) → Interior E (i .entrance) (i .exit) v
-    arm-or-dropped {v} m = ⊎-elim (item-arm .inner v) dropped-inner (List·Memᴰ·append-cases (i .arm) m)
+    pub listed-interior : {v : ℕ} → List·Memᴰ v (i .arm ++ i .dropped) → Interior E (i .entrance) (i .exit) v
+    listed-interior {v} m = ⊎-elim (item-arm .inner v) dropped-inner (List·Memᴰ·append-cases (i .arm) m)
 
     pub interior-listed : {v : ℕ} → Interior E (i .entrance) (i .exit) v → List·Memᴰ v (i .arm ++ i .dropped)
     interior-listed {v} h =

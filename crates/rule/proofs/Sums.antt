@@ -38,7 +38,7 @@ sum-added c d p (x ∷ l) h =
     let rest = sum-added c d (λ j. p (suc j)) l (λ j k. h (suc j) (omega arith)) in
     omega (arith, here, rest, total-first p (length l))
 
--- a total, and the total off one vertex
+-- a total, and the total without one vertex
 total-one : {c d : Counts} {a : ℕ} (n : ℕ) → a < n → d a ≡ 0 → ((v : ℕ) → v ≢ a → d v ≡ c v) → total c n ≡ c a + total d n
 total-one zero h z k = absurd (omega arith)
 total-one {c} {d} {a} (suc n) h z k =
@@ -51,40 +51,40 @@ total-one {c} {d} {a} (suc n) h z k =
     ]
 
 -- the counts with those of the listed vertices taken away
-off : Counts → List ℕ → Counts
-off c l v = ite (decided (decides-member v l)) 0 (c v)
+without : Counts → List ℕ → Counts
+without c l v = ite (decided (decides-member v l)) 0 (c v)
 
-off-listed : (c : Counts) {l : List ℕ} {v : ℕ} → List·Memᴰ v l → off c l v ≡ 0
-unfolding off
-off-listed c {l} {v} m = if-pos (decided (decides-member v l)) m 0 (c v)
+without-listed : (c : Counts) {l : List ℕ} {v : ℕ} → List·Memᴰ v l → without c l v ≡ 0
+unfolding without
+without-listed c {l} {v} m = if-pos (decided (decides-member v l)) m 0 (c v)
 
-off-other : (c : Counts) {l : List ℕ} {v : ℕ} → (List·Memᴰ v l → ⊥) → off c l v ≡ c v
-unfolding off
-off-other c {l} {v} n = if-neg (decided (decides-member v l)) n 0 (c v)
+without-other : (c : Counts) {l : List ℕ} {v : ℕ} → (List·Memᴰ v l → ⊥) → without c l v ≡ c v
+unfolding without
+without-other c {l} {v} n = if-neg (decided (decides-member v l)) n 0 (c v)
 
-off-same : (c : Counts) (l k : List ℕ) (v : ℕ) → (List·Memᴰ v l → List·Memᴰ v k) → (List·Memᴰ v k → List·Memᴰ v l) → off c l v ≡ off c k v
-off-same c l k v f g =
-    elim (decided (decides-member v l)) [ yes m ↦ off-listed c m ∙ sym (off-listed c (f m)) | no n ↦ off-other c n ∙ sym (off-other c (λ m. n (g m))) ]
+without-same : (c : Counts) (l k : List ℕ) (v : ℕ) → (List·Memᴰ v l → List·Memᴰ v k) → (List·Memᴰ v k → List·Memᴰ v l) → without c l v ≡ without c k v
+without-same c l k v f g =
+    elim (decided (decides-member v l)) [ yes m ↦ without-listed c m ∙ sym (without-listed c (f m)) | no n ↦ without-other c n ∙ sym (without-other c (λ m. n (g m))) ]
 
-total-off : (c : Counts) {l : List ℕ} (n : ℕ) → Distinct l → ((v : ℕ) → List·Memᴰ v l → v < n) → total c n ≡ sum c l + total (off c l) n
-total-off c n empty h = let q : total c n ≡ total (off c []) n = total-same n (λ v k. sym (off-other c List·Memᴰ·not-nil)) in omega (arith, q)
-total-off c n (fresh {a = a} {l = l} m d) h =
-    let one : total (off c l) n ≡ off c l a + total (off c (a ∷ l)) n =
-    total-one n (h a (List·Memᴰ·head refl)) (off-listed c (List·Memᴰ·head refl))
-    (λ v k. off-same c (a ∷ l) l v (λ i. ⊎-elim (λ q. absurd (k q)) (λ j. j) (List·Memᴰ·cases-cons i)) List·Memᴰ·tail) in
-    omega (arith, one, off-other c m, total-off c n d (λ v i. h v (List·Memᴰ·tail i)))
+total-without : (c : Counts) {l : List ℕ} (n : ℕ) → Distinct l → ((v : ℕ) → List·Memᴰ v l → v < n) → total c n ≡ sum c l + total (without c l) n
+total-without c n empty h = let q : total c n ≡ total (without c []) n = total-same n (λ v k. sym (without-other c List·Memᴰ·not-nil)) in omega (arith, q)
+total-without c n (fresh {a = a} {l = l} m d) h =
+    let one : total (without c l) n ≡ without c l a + total (without c (a ∷ l)) n =
+    total-one n (h a (List·Memᴰ·head refl)) (without-listed c (List·Memᴰ·head refl))
+    (λ v k. without-same c (a ∷ l) l v (λ i. ⊎-elim (λ q. absurd (k q)) (λ j. j) (List·Memᴰ·cases-cons i)) List·Memᴰ·tail) in
+    omega (arith, one, without-other c m, total-without c n d (λ v i. h v (List·Memᴰ·tail i)))
 
 -- different vertices in another order have the same sum
 pub sum-reordered : (c : Counts) {l k : List ℕ} (n : ℕ) → Distinct l → Distinct k → ((v : ℕ) → List·Memᴰ v l → v < n)
     → ((v : ℕ) → List·Memᴰ v l ↔ List·Memᴰ v k) → sum c l ≡ sum c k
 sum-reordered c {l} {k} n d e h q =
-    let rest : total (off c l) n ≡ total (off c k) n = total-same n (λ v b. off-same c l k v (q v .0) (q v .1)) in
-    omega (arith, total-off c n d h, total-off c n e (λ v m. h v (q v .1 m)), rest)
+    let rest : total (without c l) n ≡ total (without c k) n = total-same n (λ v b. without-same c l k v (q v .0) (q v .1)) in
+    omega (arith, total-without c n d h, total-without c n e (λ v m. h v (q v .1 m)), rest)
 
 pub total-moved : {c d : Counts} {l : List ℕ} (n : ℕ) → Distinct l → ((v : ℕ) → List·Memᴰ v l → v < n) → ((v : ℕ) → (List·Memᴰ v l → ⊥) → d v ≡ c v)
     → sum d l ≡ sum c l → total d n ≡ total c n
 total-moved {c} {d} {l} n e h k q =
-    let each : (v : ℕ) → off d l v ≡ off c l v =
-    λ v. elim (decided (decides-member v l)) [ yes m ↦ off-listed d m ∙ sym (off-listed c m) | no m ↦ off-other d m ∙ k v m ∙ sym (off-other c m) ] in
-    let rest : total (off d l) n ≡ total (off c l) n = total-same n (λ v b. each v) in
-    omega (arith, total-off d n e h, total-off c n e h, rest, q)
+    let each : (v : ℕ) → without d l v ≡ without c l v =
+    λ v. elim (decided (decides-member v l)) [ yes m ↦ without-listed d m ∙ sym (without-listed c m) | no m ↦ without-other d m ∙ k v m ∙ sym (without-other c m) ] in
+    let rest : total (without d l) n ≡ total (without c l) n = total-same n (λ v b. each v) in
+    omega (arith, total-without d n e h, total-without c n e h, rest, q)

@@ -3,7 +3,7 @@ use Prim.Native.Nat.{ℕ}
 use mathlib.Core.Path.{_≡_}
 use mathlib.Core.Logic.{_≢_, _↔_}
 use Rattle.bubble.specs.Superbubble.{F, Reaches, Bubbloid, Superbubble}
-use Rattle.bubble.proofs.Reversal.{rev, reaches-reversed, inside-reversed}
+use Rattle.bubble.proofs.Reversal.{reversed, reaches-reversed, inside-reversed}
 use Rattle.bubble.proofs.Unique.{superbubble-reversed}
 use Rattle.rule.specs.Lists.{Graph}
 
@@ -21,7 +21,7 @@ pub record Thread (E E′ : Graph) (s t : ℕ) (N : Graph) : Type 0 where
   pub whole : Reaches N s t
   pub passed-once : E s t → Reaches E t s → ⊥
 
-pub thread-reversed : {E E′ : Graph} {s t : ℕ} {N : Graph} → Thread E E′ s t N → Thread (rev E) (rev E′) t s (rev N)
+pub thread-reversed : {E E′ : Graph} {s t : ℕ} {N : Graph} → Thread E E′ s t N → Thread (reversed E) (reversed E′) t s (reversed N)
 thread-reversed {E} {E′} {s} {t} {N} k =
     let b = k .superbubble .bubbloid in
     record {
@@ -46,5 +46,5 @@ pub record Clear (E : Graph) (s t x y : ℕ) : Type 0 where
   pub start : F E s t x → x ≢ t → ⊥
   pub stop : F E s t y → y ≢ s → ⊥
 
-pub clear-reversed : {E : Graph} {s t x y : ℕ} → Bubbloid E s t → Clear E s t x y → Clear (rev E) t s y x
+pub clear-reversed : {E : Graph} {s t x y : ℕ} → Bubbloid E s t → Clear E s t x y → Clear (reversed E) t s y x
 clear-reversed b o = record { start = λ f. o .stop (inside-reversed b .1 f); stop = λ f. o .start (inside-reversed b .1 f) }

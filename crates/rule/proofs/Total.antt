@@ -11,7 +11,7 @@ use Rattle.rule.specs.Lists.{Graph, CandidateSet, Counts, sum, total}
 use Rattle.rule.specs.Fold.{Rule, Item, Fits, Applied}
 use Rattle.rule.specs.Laws.{RuleLaws, CandidateLaws}
 use Rattle.rule.proofs.Together.{entrances}
-use Rattle.rule.proofs.Items.{item-superbubble, dropped-inner, arm-or-dropped, interior-listed, interior-distinct}
+use Rattle.rule.proofs.Items.{item-superbubble, dropped-inner, listed-interior, interior-listed, interior-distinct}
 use Rattle.rule.proofs.Remaining.{items-differ}
 use Rattle.rule.proofs.Sums.{sum-append, sum-zero, sum-added, total-moved}
 
@@ -51,7 +51,7 @@ module _ {G : Graph → Type 0} {C : CandidateSet} {R : Rule} (L : CandidateLaws
           let (j, h, l) = of-touched items k in
           let fj = f j (List·Memᴰ·tail h) in
           let entrance : Item → ℕ = λ x. x .entrance in
-          L .apart g (fi .candidate) (fj .candidate) (λ q. n (Memᴰ·cast q (Memᴰ·map entrance h))) (arm-or-dropped L M fi m) (arm-or-dropped L M fj l .inside)
+          L .apart g (fi .candidate) (fj .candidate) (λ q. n (Memᴰ·cast q (Memᴰ·map entrance h))) (listed-interior L M fi m) (listed-interior L M fj l .inside)
 
   module _ {E′ : Graph} {c′ : Counts} {b : ℕ} (g : G E) (a : Applied C R E c b E′ c′) where
     item-sum : (i : Item) → List·Memᴰ i (a .items) → sum c′ (i .arm ++ i .dropped) ≡ sum c (i .arm ++ i .dropped)
@@ -80,7 +80,7 @@ module _ {G : Graph → Type 0} {C : CandidateSet} {R : Rule} (L : CandidateLaws
     touched-below : {n : ℕ} → Below E n → (v : ℕ) → List·Memᴰ v (touched (a .items)) → v < n
     touched-below below v m =
         let (i, k, h) = of-touched (a .items) m in
-        interior-below below (arm-or-dropped L M (a .fit i k) h)
+        interior-below below (listed-interior L M (a .fit i k) h)
 
     pub total-kept : (n : ℕ) → Below E n → total c′ n ≡ total c n
     total-kept n below =

@@ -5,9 +5,9 @@ use mathlib.Core.Logic.{_≢_, _⊎_, inl, inr, ⊎-elim, ⊎-map}
 use native.Mathlib.Decide.{ℕ-discrete}
 use Rattle.bubble.specs.Superbubble.{F, F.start, F.on, B, B.end, B.from, Walk, Walk.edge, Walk.more, Reaches, Reaches.none, Reaches.then, Bubbloid, Interior}
 use Rattle.bubble.proofs.Walks.{walk-append, walk-end, F-reaches}
-use Rattle.bubble.proofs.Reversal.{rev, F-reversed, B-reversed}
+use Rattle.bubble.proofs.Reversal.{reversed, F-reversed, B-reversed}
 use Rattle.bubble.proofs.Facts.{exit-inside, closed-backward, no-edge-to-entrance, no-edge-from-exit}
-use Rattle.bubble.proofs.FromSet.{make}
+use Rattle.bubble.proofs.FromSet.{make-bubbloid}
 use Rattle.rule.specs.Lists.{Graph}
 use Rattle.bubble.proofs.Fewer.{F-fewer, B-fewer, walk-fewer}
 use Rattle.rule.proofs.Thread.{Thread, thread-reversed, Clear, clear-reversed}
@@ -147,20 +147,20 @@ module _ {E E′ : Graph} {s t x y : ℕ} {N : Graph} (k : Thread E E′ s t N) 
   no-cycle v w = no-cycle-outside (λ i. no-cycle-inside i w) w
 
 module _ {E E′ : Graph} {s t x y : ℕ} {N : Graph} (k : Thread E E′ s t N) (o : Clear E s t x y) where
-  turned : Thread (rev E) (rev E′) t s (rev N)
+  turned : Thread (reversed E) (reversed E′) t s (reversed N)
   turned = thread-reversed k
 
-  clear : Clear (rev E) t s y x
+  clear : Clear (reversed E) t s y x
   clear = clear-reversed (bubbloid-of k) o
 
   pub bubbloid-after : Bubbloid E x y → Bubbloid E′ x y
   bubbloid-after b =
       let back : (v : ℕ) → B E′ x y v → F E′ x y v =
       λ v g. B-reversed .0 (match-after turned clear (λ u f. B-reversed .1 (b .matching u .1 (F-reversed .0 f))) v (F-reversed .1 g)) in
-      make (b .distinct) (match-after k o (λ v. b .matching v .0)) back (λ v w. b .acyclicity v (walk-fewer (fewer k) (λ u. F-fewer (fewer k)) w))
+      make-bubbloid (b .distinct) (match-after k o (λ v. b .matching v .0)) back (λ v w. b .acyclicity v (walk-fewer (fewer k) (λ u. F-fewer (fewer k)) w))
 
   pub bubbloid-before : Bubbloid E′ x y → Bubbloid E x y
   bubbloid-before b =
       let back : (v : ℕ) → B E x y v → F E x y v =
       λ v g. B-reversed .0 (match-before turned clear (λ u f. B-reversed .1 (b .matching u .1 (F-reversed .0 f))) v (F-reversed .1 g)) in
-      make (b .distinct) (match-before k o (λ v. b .matching v .0)) back (no-cycle k o b)
+      make-bubbloid (b .distinct) (match-before k o (λ v. b .matching v .0)) back (no-cycle k o b)

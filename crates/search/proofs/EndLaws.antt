@@ -149,8 +149,8 @@ module _ {starts targets parents left order : List ℕ} {s head tail waiting : �
     back-below k = edges-below (g .well-formed) _ _ (back-edge k) .1
 
     -- which n vertices cannot carry
-    pub end-dry : ⊥
-    end-dry =
+    pub end-none : ⊥
+    end-none =
         omega (
           arith,
           places-below (λ k. back k .0) (suc (vertices starts)) (vertices starts) (λ k l. back-below k) (λ i j l m q.

@@ -11,7 +11,7 @@ use Rattle.search.specs.Search.{Searched}
 use Rattle.search.specs.Steps.{Alone, Ran}
 use Rattle.search.proofs.Going.{Going, going-none, tail-most, going-lowered, no-back, some-child}
 use Rattle.search.proofs.TurnLaws.{turn-walkable, turn-more}
-use Rattle.search.proofs.EndLaws.{end-found, end-dry}
+use Rattle.search.proofs.EndLaws.{end-found, end-none}
 use Rattle.search.proofs.visits.visit.Statement.{statement}
 use Rattle.search.proofs.visits.visit.Tie as tie
 
@@ -139,7 +139,7 @@ same-length-8 c = same-order (c .before .before)
 
 returns-4 : tie.Need-returns-4 Inv-loop μ-loop
 returns-4 c = let g = c .before .before .loop .inv .1 in
-    ended (c .before .before) _ (λ t b. end-dry g (omega arith) (b .bubbloid))
+    ended (c .before .before) _ (λ t b. end-none g (omega arith) (b .bubbloid))
 
 pub visit-spec : {M : Type 1} → statement M
 visit-spec =
