@@ -1,6 +1,7 @@
 // The budget, as the program's first argument says it.
 ghost use Prim.Native.Nat.{_≤_};
 
+// What the argument says.
 pub enum Budget {
     Number(u32),
     Wrong,

@@ -67,6 +67,7 @@ fn fold_file(budget: u32, from: &[u8], to: &[u8])
     fold_stream(&stream[..count], budget, to);
 }
 
+// Says how the program is called.
 fn usage() {
     io::write_all(
         libc::STDOUT_FILENO,
@@ -74,6 +75,7 @@ fn usage() {
     );
 }
 
+// Takes the budget and the two names from the arguments and folds.
 fn main() {
     if os::arg_count() != 4 {
         usage();

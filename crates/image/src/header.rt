@@ -23,12 +23,16 @@ pub struct Header {
 }
 
 impl Header {
+    // The bytes S B T.
     pub const MARK: [u8; 3] = [83, 66, 84];
 
+    // The version that is read and written.
     pub const VERSION: u32 = 1;
 
+    // How many bytes a header has.
     pub const SIZE: usize = 13;
 
+    // The length of the largest image, of 2,048 vertices and 8,192 edges.
     pub const LARGEST: usize = 57_361;
 
     // The length of an image by its n and m.

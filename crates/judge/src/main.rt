@@ -108,6 +108,7 @@ fn judge_input(s: u32, t: u32) {
     text::flush(&out, end);
 }
 
+// Says how the program is called.
 fn usage() {
     io::write_all(
         libc::STDOUT_FILENO,
@@ -115,6 +116,7 @@ fn usage() {
     );
 }
 
+// Takes the two vertices from the arguments and judges the pair.
 fn main() {
     if os::arg_count() != 3 {
         usage();

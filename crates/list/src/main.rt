@@ -63,6 +63,7 @@ fn image_lines(
     list_lines(out, 0, &starts[..n + 1], &targets[..m], pairs)
 }
 
+// Reads the image on standard input and prints the list of its table.
 fn main() {
     let mut stream = [0u8; MOST];
     let count = io::read_full(libc::STDIN_FILENO, &mut stream);

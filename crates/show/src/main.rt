@@ -1,8 +1,9 @@
 // Prints the table that stands in the image on standard input: `table N M`, then for each vertex its number, its count and its successors; or `refused N`.
-//
+
 // One byte more than the largest image is read, so that a longer stream gets the number that its header earns.
 const MOST: usize = image::Header::LARGEST + 1;
 
+// Reads the image on standard input and prints its table.
 fn main() {
     let mut stream = [0u8; MOST];
     let count = io::read_full(libc::STDIN_FILENO, &mut stream);
