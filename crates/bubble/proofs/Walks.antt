@@ -57,7 +57,7 @@ module _ {E : ℕ → ℕ → Type 0} where
   reaches-exit {t = t} = (λ r. ⊎-elim (λ f. f) (λ f. f) (reaches-cut t r), F-reaches)
 
   -- a path from s is empty, or a walk inside every set that holds F
-  pub F-walk : {s t v : ℕ} {P : ℕ → Type 0} → ((x : ℕ) → F E s t x → P x) → F E s t v → (v ≡ s) ⊎ Walk E P s v
+  F-walk : {s t v : ℕ} {P : ℕ → Type 0} → ((x : ℕ) → F E s t x → P x) → F E s t v → (v ≡ s) ⊎ Walk E P s v
   F-walk h start = inl refl
   F-walk {s = s} {v = v} h (on f n e) =
       ⊎-elim (λ q. inr (edge (h s start) (rw q at e) (h v (on f n e)))) (λ w. inr (more w e (h v (on f n e)))) (F-walk h f)

@@ -55,7 +55,7 @@ module _ (starts targets counts exits next out : List ℕ) (budget folded found 
           untouched = turns .untouched;
         }
 
-    pub table-folded : TableFolded Candidate first-takes-all starts targets counts budget starts₁ targets₁ out folded (found - folded)
+    table-folded : TableFolded Candidate first-takes-all starts targets counts budget starts₁ targets₁ out folded (found - folded)
     unfolding applied
     table-folded =
         let many = items-number candidate-laws first-takes-all-laws acyclic applied in

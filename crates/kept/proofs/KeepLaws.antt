@@ -90,7 +90,7 @@ module _ {starts targets counts visited : List ℕ} {t : ℕ} {best next out bes
     entrance-stays m = gone-interior m .not-entrance refl
 
     -- the vertex after the entrance, as the code finds it
-    pub first-vertex : getD next′ (getD visited 0 0) 0 ≡ getD settled′ (getD visited 0 0) 0
+    first-vertex : getD next′ (getD visited 0 0) 0 ≡ getD settled′ (getD visited 0 0) 0
     first-vertex = rw (w .no-rows) (puts-other settled′ (w .gone) none entrance-stays)
 
     pub first-below : getD next′ (getD visited 0 0) 0 < vertices starts

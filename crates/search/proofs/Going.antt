@@ -114,7 +114,7 @@ module _ {starts targets parents left order : List ℕ} {s head tail waiting : �
               on (inside-to d j (omega arith) (omega arith)) (g .before-exit t b j m) f
         ]
 
-    pub inside : (i : ℕ) → i < tail → F (Edge starts targets) s t (getD order i 0)
+    inside : (i : ℕ) → i < tail → F (Edge starts targets) s t (getD order i 0)
     inside i l = inside-to i i (omega arith) l
 
     module _ (ready : head < tail) where

@@ -74,7 +74,7 @@ module _ (rows : ℕ → List ℕ) where
 
   module _ (n : ℕ) where
     -- the rows of the table are these
-    pub row-laid : (v : ℕ) → v < n → row (begins rows (suc n)) (laid rows n) v ≡ rows v
+    row-laid : (v : ℕ) → v < n → row (begins rows (suc n)) (laid rows n) v ≡ rows v
     row-laid v h =
         let from = begins-at (suc n) v (omega arith) in
         let to : getD (begins rows (suc n)) (v + 1) 0 ≡ length (laid rows v) + length (rows v) =
