@@ -15,8 +15,10 @@ use Rattle.image.specs.Image.{mark, imageLength, versionOf, verticesOf, edgesOf
 use Rattle.image.specs.Contracts.{headerDemands, bodyDemands}
 use Rattle.bubble.proofs.Reflect.{decided, decides-test}
 use Rattle.bubble.proofs.Closure.{decides-closure}
+use Rattle.bubble.proofs.Walks.{walk-first}
+use Rattle.rule.proofs.CandidatesListed.{some-decided}
 use Rattle.cycle.specs.Cycle.{Anywhere, Cyclic}
-use Rattle.bubble.specs.Superbubble.{Walk, Walk.edge, Walk.more}
+use Rattle.bubble.specs.Superbubble.{Walk}
 use Rattle.search.proofs.OccurrenceLaws.{in-decided}
 
 -- each demand is decided where those before it are met
@@ -47,26 +49,13 @@ not-decided : {P : Type 0} → Dec P → Dec (P → ⊥)
 not-decided (yes p) = no (λ n. n p)
 not-decided (no n) = yes n
 
--- what is decided of each number is decided of all below n,
+-- what is decided of each number is decided of all below n
 every-below : {P : ℕ → Type 0} → ((k : ℕ) → Dec (P k)) → (n : ℕ) → Dec ((k : ℕ) → k < n → P k)
 every-below d zero = yes (λ k h. absurd (let no : ⊥ = omega arith in no))
 every-below {P} d (suc n) =
     elim (both (every-below d n) (d n)) [
       | yes h ↦ yes (λ k l. elim (ℕ-discrete k n) [ yes q ↦ rw q (h .1) | no other ↦ h .0 k (omega arith) ])
       | no h ↦ no (λ all. h (λ k l. all k (omega arith), all n (omega arith)))
-    ]
-
--- and whether there is one below n
-some-below : {P : ℕ → Type 0} → ((k : ℕ) → Dec (P k)) → (n : ℕ) → Dec ((k : ℕ) × (k < n) × P k)
-some-below d zero = no (λ h. omega (arith, h .1))
-some-below {P} d (suc n) =
-    elim (d n) [
-      | yes p ↦ yes (n, omega arith, p)
-      | no here ↦
-          elim (some-below d n) [
-            | yes h ↦ yes (h .0, omega (arith, h .1), h .2)
-            | no below ↦ no (λ h. elim (ℕ-discrete (h .0) n) [ yes q ↦ here (rw q at (h .2)) | no other ↦ below (h .0, omega (arith, h .1), h .2) ])
-          ]
     ]
 
 below-decided : (n : ℕ) (xs : List ℕ) → Dec (Below n xs)
@@ -96,16 +85,13 @@ pub edge-decided : (starts targets : List ℕ) (u v : ℕ) → Dec (Edge starts 
 edge-decided starts targets u v =
     map-dec (λ h. record { vertex = h .0; listed = h .1 }) (λ e. (e .vertex, e .listed)) (both (decLt u (vertices starts)) (in-decided v (row starts targets u)))
 
-walk-below : {starts targets : List ℕ} {u v : ℕ} → Walk (Edge starts targets) Anywhere u v → u < vertices starts
-walk-below (edge a e b) = e .vertex
-walk-below (more w e b) = walk-below w
-
 -- whether a well-formed table has a directed cycle
 cycle-decided : (starts targets : List ℕ) → WellFormed starts targets → Dec (Cyclic (Edge starts targets))
 cycle-decided starts targets ok =
     let back : (v : ℕ) → Dec (Walk (Edge starts targets) Anywhere v v)
     = λ v. decided (decides-closure (λ x y. decides-test (edge-decided starts targets x y)) (vertices starts) (λ x y e. edges-below ok x y e .1) v v) in
-    map-dec (λ h. record { vertex = h .0; back = h .2 }) (λ c. (c .vertex, walk-below (c .back), c .back)) (some-below back (vertices starts))
+    map-dec (λ h. record { vertex = h .0; back = h .1 }) (λ c. (c .vertex, c .back))
+    (some-decided (vertices starts) back (λ v w. walk-first w .1 .vertex))
 
 -- 1 to 5,
 pub table-decided : (starts targets : List ℕ) → DecidedInTurn (tableDemands starts targets)

@@ -11,7 +11,7 @@ use Rattle.rule.specs.Fold.{Candidate, Entrance}
 use Rattle.rule.proofs.Listings.{listing-exists}
 
 -- whether there is one below n
-some-decided : {P : ℕ → Type 0} (n : ℕ) → ((v : ℕ) → Dec (P v)) → ((v : ℕ) → P v → v < n) → Dec ((v : ℕ) × P v)
+pub some-decided : {P : ℕ → Type 0} (n : ℕ) → ((v : ℕ) → Dec (P v)) → ((v : ℕ) → P v → v < n) → Dec ((v : ℕ) × P v)
 some-decided {P} n d h = let (l, a) = listing-exists n d h in go l a
   where
     go : (l : List ℕ) → Listing P l → Dec ((v : ℕ) × P v)
