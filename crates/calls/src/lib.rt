@@ -1,0 +1,62 @@
+// The library's calls for a C program: list, judge and fold. The number is returned, and each other field is handed out through a lent number.
+ghost use Rattle.listing.specs.Listing.{JudgeDone, ListDone};
+ghost use Rattle.folding.specs.Folding.{FoldDone};
+
+// Lists the superbubbles of a table at the front of a lent slice, and hands out how many were found.
+#[no_mangle]
+pub extern "C" fn gohardim_list(
+    starts: &[u32],
+    targets: &[u32],
+    out: &mut [u32],
+    found: &mut usize,
+) -> u32
+    ensures { λ r.
+        ⌜ ListDone (now (starts .entry)) (now (targets .entry)) (now (out .entry)) (now (out .exit)) r (now (found .exit)) ⌝ }
+{
+    let answer = listing::list(starts, targets, out);
+    *found = answer.found;
+    answer.number
+}
+
+// Judges one pair, and hands out yes or no and the number of vertices in U.
+#[no_mangle]
+pub extern "C" fn gohardim_judge(
+    starts: &[u32],
+    targets: &[u32],
+    s: u32,
+    t: u32,
+    yes: &mut bool,
+    size: &mut u32,
+) -> u32
+    ensures { λ r.
+        ⌜ JudgeDone (now (starts .entry)) (now (targets .entry)) s t r (now (yes .exit)) (now (size .exit)) ⌝ }
+{
+    let answer = listing::judge(starts, targets, s, t);
+    *yes = answer.yes;
+    *size = answer.size;
+    answer.number
+}
+
+// Folds a table by a budget into a second set of slices, and hands out how many were folded, how many candidates remain and the new edge count.
+#[no_mangle]
+pub extern "C" fn gohardim_fold(
+    starts: &[u32],
+    targets: &[u32],
+    counts: &[u64],
+    budget: u32,
+    starts2: &mut [u32],
+    targets2: &mut [u32],
+    counts2: &mut [u64],
+    folded: &mut usize,
+    left: &mut usize,
+    edges: &mut usize,
+) -> u32
+    ensures { λ r.
+        ⌜ FoldDone (now (starts .entry)) (now (targets .entry)) (now (counts .entry)) budget (now (starts2 .entry)) (now (targets2 .entry)) (now (counts2 .entry)) (now (starts2 .exit)) (now (targets2 .exit)) (now (counts2 .exit)) r (now (folded .exit)) (now (left .exit)) (now (edges .exit)) ⌝ }
+{
+    let answer = folding::fold(starts, targets, counts, budget, starts2, targets2, counts2);
+    *folded = answer.folded;
+    *left = answer.left;
+    *edges = answer.edges;
+    answer.number
+}
