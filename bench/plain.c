@@ -1,0 +1,249 @@
+// List, judge and fold in plain C: the algorithms of the crates step by step, with the same checks, the same
+// working arrays and the same answers. The measure that the library is held against.
+#include "plain.h"
+
+enum { MOST = 2048, MOST_EDGES = 8192 };
+static const u64 MOST_COUNTED = 1099511627775;
+
+// ---- the check of a table
+
+static u32 check(const u32 *starts, usize starts_len, const u32 *targets, usize m) {
+    if (starts_len == 0 || starts_len > MOST + 1) return 1;
+    if (m > MOST_EDGES) return 2;
+    usize n = starts_len - 1;
+    if (starts[0] != 0) return 3;
+    for (usize v = 0; v < n; v++)
+        if (starts[v + 1] < starts[v]) return 3;
+    if (starts[n] != m) return 3;
+    for (usize k = 0; k < m; k++)
+        if (targets[k] >= n) return 4;
+    for (usize v = 0; v < n; v++)
+        for (usize k = starts[v]; k + 1 < starts[v + 1]; k++)
+            if (targets[k + 1] <= targets[k]) return 5;
+    return 0;
+}
+
+static u32 check_counts(const u64 *counts, usize counts_len, usize n) {
+    if (counts_len != n) return 6;
+    u64 rest = MOST_COUNTED;
+    for (usize v = 0; v < n; v++) {
+        if (counts[v] > rest) return 7;
+        rest -= counts[v];
+    }
+    return 0;
+}
+
+// ---- the search from an entrance to its exit
+
+// How many edges lead to each vertex.
+static void count_parents(const u32 *targets, usize m, u32 *parents, usize n) {
+    memset(parents, 0, n * sizeof *parents);
+    for (usize k = 0; k < m; k++) parents[targets[k]]++;
+}
+
+// Visits a vertex once all its parents are, until one is ready and no other is reached. Answers whether there is an
+// exit; how many were visited is handed out in either case, and what is left of the parents is whole again.
+static _Bool search(const u32 *starts, const u32 *targets, const u32 *parents, u32 *left, u32 *order, u32 s,
+                    u32 *exit, usize *visited) {
+    usize head = 0, tail = 1, waiting = 0;
+    _Bool found = 0;
+    order[0] = s;
+    while (head < tail) {
+        u32 v = order[head];
+        const u32 *row = targets + starts[v], *end = targets + starts[v + 1];
+        const u32 *edge = row;
+        while (edge < end && *edge != s) edge++;
+        if (edge < end) break;
+        if (head != 0 && tail == head + 1 && waiting == 0) {
+            *exit = v;
+            found = 1;
+            break;
+        }
+        if (row == end) break;
+        for (edge = row; edge < end; edge++) {
+            u32 u = *edge, all = parents[u], some = left[u];
+            order[tail] = u;
+            left[u] = some - 1;
+            tail += some == 1;
+            waiting += (some != 1 && some - 1 < all) - (some != 0 && some < all);
+        }
+        head++;
+    }
+    *visited = head;
+    for (usize k = head; k > 0; k--) {
+        u32 v = order[k - 1];
+        for (usize e = starts[v]; e < starts[v + 1]; e++) left[targets[e]]++;
+    }
+    return found;
+}
+
+// ---- list and judge
+
+u32 plain_list(const u32 *starts, usize starts_len, const u32 *targets, usize m, u32 *out, usize out_len,
+               usize *found) {
+    *found = 0;
+    u32 number = check(starts, starts_len, targets, m);
+    if (number != 0) return number;
+    usize n = starts_len - 1;
+    if (out_len < 2 * n) return 8;
+    u32 parents[MOST], left[MOST], order[MOST];
+    count_parents(targets, m, parents, n);
+    count_parents(targets, m, left, n);
+    usize pairs = 0;
+    for (u32 s = 0; s < n; s++) {
+        u32 t;
+        usize visited;
+        if (search(starts, targets, parents, left, order, s, &t, &visited)) {
+            out[2 * pairs] = s;
+            out[2 * pairs + 1] = t;
+            pairs++;
+        }
+    }
+    *found = pairs;
+    return 0;
+}
+
+u32 plain_judge(const u32 *starts, usize starts_len, const u32 *targets, usize m, u32 s, u32 t, _Bool *yes,
+                u32 *size) {
+    *yes = 0;
+    *size = 0;
+    u32 number = check(starts, starts_len, targets, m);
+    if (number != 0) return number;
+    usize n = starts_len - 1;
+    if (s >= n || t >= n) return 13;
+    u32 parents[MOST], left[MOST], order[MOST];
+    count_parents(targets, m, parents, n);
+    count_parents(targets, m, left, n);
+    u32 exit;
+    usize visited;
+    if (!search(starts, targets, parents, left, order, s, &exit, &visited) || exit != t) return 0;
+    u64 words[MOST / 64] = {0};
+    for (usize k = 0; k < visited; k++) words[order[k] / 64] |= 1ul << order[k] % 64;
+    words[t / 64] |= 1ul << t % 64;
+    u32 sum = 0;
+    for (usize i = 0; i < MOST / 64; i++) sum += __builtin_popcountl(words[i]);
+    *yes = 1;
+    *size = sum;
+    return 0;
+}
+
+// ---- fold
+
+// Whether a cycle is reached from v: one that closes on a vertex whose visit has not ended.
+static _Bool closes(const u32 *starts, const u32 *targets, u8 *colours, u32 v) {
+    if (colours[v] != 0) return colours[v] == 1;
+    colours[v] = 1;
+    for (usize k = starts[v]; k < starts[v + 1]; k++)
+        if (closes(starts, targets, colours, targets[k])) return 1;
+    colours[v] = 2;
+    return 0;
+}
+
+static _Bool has_cycle(const u32 *starts, const u32 *targets, usize n) {
+    u8 colours[MOST];
+    memset(colours, 0, n);
+    for (u32 v = 0; v < n; v++)
+        if (closes(starts, targets, colours, v)) return 1;
+    return 0;
+}
+
+// The exit of each outermost superbubble with an interior, by its entrance, and n for every other vertex.
+static usize find_candidates(const u32 *starts, const u32 *targets, usize n, const u32 *parents, u32 *left, u32 *order,
+                             u32 *exits) {
+    memset(exits, 0, n * sizeof *exits);
+    for (u32 s = 0; s < n; s++) {
+        u32 t;
+        usize visited;
+        if (exits[s] == n) continue;
+        if (!search(starts, targets, parents, left, order, s, &t, &visited) || visited < 2) {
+            exits[s] = n;
+            continue;
+        }
+        exits[s] = t;
+        for (usize k = 1; k < visited; k++) exits[order[k]] = n;
+    }
+    usize found = 0;
+    for (usize s = 0; s < n; s++) found += exits[s] < n;
+    return found;
+}
+
+// Keeps the best path through the visited vertices to t: the next vertex of each kept one, n + 1 for a dropped one.
+static void keep_path(const u32 *starts, const u32 *targets, const u64 *counts, usize n, const u32 *visited,
+                      usize visited_len, u32 t, u64 *best, u32 *next, u64 *counts2) {
+    for (usize k = visited_len; k > 0; k--) {
+        u32 v = visited[k - 1];
+        const u32 *row = targets + starts[v], *end = targets + starts[v + 1];
+        u32 child = *row;
+        u64 gain = child == t ? 0 : counts[child] + best[child];
+        for (const u32 *edge = row + 1; edge < end; edge++) {
+            u64 more = *edge == t ? 0 : counts[*edge] + best[*edge];
+            if (more > gain) {
+                child = *edge;
+                gain = more;
+            }
+        }
+        best[v] = gain;
+        next[v] = child;
+    }
+    u32 first = next[visited[0]], kept = first;
+    u64 dropped = 0;
+    for (usize k = 1; k < visited_len; k++) {
+        u32 v = visited[k];
+        if (v == kept) {
+            kept = next[v];
+        } else {
+            next[v] = n + 1;
+            counts2[v] = 0;
+            dropped += counts[v];
+        }
+    }
+    if (first != t) counts2[first] = counts[first] + dropped;
+}
+
+// Writes the edges that stay: of a row all where next is n, else the one to next, or none.
+static usize write_table(const u32 *starts, const u32 *targets, usize n, const u32 *next, u32 *starts2,
+                         u32 *targets2) {
+    usize at = 0;
+    for (usize v = 0; v < n; v++) {
+        starts2[v] = at;
+        if (next[v] < n)
+            targets2[at++] = next[v];
+        else if (next[v] == n)
+            for (usize k = starts[v]; k < starts[v + 1]; k++) targets2[at++] = targets[k];
+    }
+    starts2[n] = at;
+    return at;
+}
+
+u32 plain_fold(const u32 *starts, usize starts_len, const u32 *targets, usize m, const u64 *counts, usize counts_len,
+               u32 budget, u32 *starts2, usize starts2_len, u32 *targets2, usize targets2_len, u64 *counts2,
+               usize counts2_len, usize *folded, usize *left_over, usize *edges) {
+    *folded = *left_over = *edges = 0;
+    u32 number = check(starts, starts_len, targets, m);
+    if (number != 0) return number;
+    usize n = starts_len - 1;
+    number = check_counts(counts, counts_len, n);
+    if (number != 0) return number;
+    if (starts2_len < n + 1 || targets2_len < m || counts2_len < n) return 8;
+    if (has_cycle(starts, targets, n)) return 9;
+    u32 parents[MOST], left[MOST], order[MOST], exits[MOST], next[MOST];
+    u64 best[MOST];
+    count_parents(targets, m, parents, n);
+    count_parents(targets, m, left, n);
+    usize found = find_candidates(starts, targets, n, parents, left, order, exits);
+    for (usize v = 0; v < n; v++) next[v] = n;
+    memcpy(counts2, counts, n * sizeof *counts);
+    usize done = 0;
+    for (u32 s = 0; s < n; s++) {
+        u32 t;
+        usize visited;
+        if (exits[s] >= n || done >= budget) continue;
+        search(starts, targets, parents, left, order, s, &t, &visited);
+        keep_path(starts, targets, counts, n, order, visited, t, best, next, counts2);
+        done++;
+    }
+    *edges = write_table(starts, targets, n, next, starts2, targets2);
+    *folded = done;
+    *left_over = found - done;
+    return 0;
+}
