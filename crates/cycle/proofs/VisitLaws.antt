@@ -110,6 +110,10 @@ module _ {starts targets : List ℕ} where
     pub coloured : v < length colours
     coloured = omega (arith, can .testable .room, can .ahead v refl .vertex)
 
+    -- v is one of 2,048
+    pub below-most : v < 2048
+    below-most = omega (arith, can .testable .well-formed .some, can .testable .well-formed .most-vertices, can .ahead v refl .vertex)
+
     -- a vertex on the path has a walk to v, so v on the path is on a cycle
     pub path-closes : getD colours v 0 ≡ 1 → Cyclic (Edge starts targets)
     path-closes q = record { vertex = v; back = can .ahead v refl .walk v (can .ahead v refl .vertex) q }

@@ -8,8 +8,9 @@ ghost use Rattle.cycle.specs.Cycle.{Cyclic};
 ghost use Rattle.cycle.specs.Visits.{Testable, Unvisited, Visitable, Answer};
 
 // Sets the first n colours to 0.
-fn clear(colours: &mut [u8], n: usize)
+fn clear(colours: &mut [u8; 2048], n: usize)
     requires { ⌜ n ≤ length (now colours) ⌝ }
+    requires { ⌜ n ≤ 2048 ⌝ }
     ensures { λ r. ⌜ Unvisited n (now (colours .entry)) (now (colours .exit)) ⌝ }
 {
     let mut u = 0;
@@ -20,7 +21,7 @@ fn clear(colours: &mut [u8], n: usize)
 }
 
 // Visits v, and through its row each successor that is unvisited. A vertex that is still on the path closes a cycle.
-fn visit(starts: &[u32], targets: &[u32], colours: &mut [u8], v: usize) -> bool
+fn visit(starts: &[u32], targets: &[u32], colours: &mut [u8; 2048], v: usize) -> bool
     requires { ⌜ Visitable (now starts) (now targets) (now colours) (λ u. u ≡ v) ⌝ }
     ensures { λ r. ⌜ Answer r (now (starts .entry)) (now (targets .entry)) (now (colours .entry)) (now (colours .exit)) (λ u. u ≡ v) ⌝ }
 {
@@ -40,7 +41,7 @@ fn visit(starts: &[u32], targets: &[u32], colours: &mut [u8], v: usize) -> bool
 }
 
 // Visits each vertex of a row in turn.
-fn walk_row(starts: &[u32], targets: &[u32], colours: &mut [u8], row: &[u32]) -> bool
+fn walk_row(starts: &[u32], targets: &[u32], colours: &mut [u8; 2048], row: &[u32]) -> bool
     requires { ⌜ Visitable (now starts) (now targets) (now colours) (λ u. In u (now row)) ⌝ }
     ensures { λ r. ⌜ Answer r (now (starts .entry)) (now (targets .entry)) (now (colours .entry)) (now (colours .exit)) (λ u. In u (now (row .entry))) ⌝ }
 {
@@ -55,7 +56,7 @@ fn walk_row(starts: &[u32], targets: &[u32], colours: &mut [u8], row: &[u32]) ->
 }
 
 // Whether the table has a directed cycle. A self-loop is one.
-pub fn has_cycle(starts: &[u32], targets: &[u32], colours: &mut [u8]) -> bool
+pub fn has_cycle(starts: &[u32], targets: &[u32], colours: &mut [u8; 2048]) -> bool
     requires { ⌜ Testable (now starts) (now targets) (now colours) ⌝ }
     ensures { λ r. ⌜ Says r (Cyclic (Edge (now (starts .entry)) (now (targets .entry)))) ⌝ }
 {

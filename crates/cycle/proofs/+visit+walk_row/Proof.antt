@@ -8,7 +8,7 @@ use Rattle.table.specs.Table.{vertices}
 use Rattle.table.proofs.RowLaws.{row-lies}
 use Rattle.cycle.specs.Visits.{Visited}
 use Rattle.cycle.proofs.CountLaws.{unvisited, onward-unvisited, enter-unvisited}
-use Rattle.cycle.proofs.VisitLaws.{FirstOf, first-none, first-more, first-all, coloured, path-closes, visited-before, row-visitable, row-visited, visited-none, visitable-later, visited-more, visited-some}
+use Rattle.cycle.proofs.VisitLaws.{FirstOf, first-none, first-more, first-all, coloured, below-most, path-closes, visited-before, row-visitable, row-visited, visited-none, visitable-later, visited-more, visited-some}
 use borrow.Fn.Kinds.{In}
 use borrow.Fn.PlainCycle.{Measures, is, falls, and}
 use Rattle.cycle.proofs.visit.Reads as visit
@@ -42,13 +42,13 @@ abbrev walk-row-below : ℕ → In 4 walk-row-kinds.ps
 walk-row-below t =
     and 4 walk-row-kinds.ps (falls 4 walk-row-kinds.ps _<_ μ-walk-row t) walk-row.Pre
 
-visit-slice-read-colour : (t : ℕ) → visit-lts.Need-slice-read-colour (
+visit-element-copy-out-colour : (t : ℕ) → visit-lts.Need-element-copy-out-colour (
   row-reads.Asked,
   row-reads.Learnt,
   walk-row-below t,
   walk-row.Post,
 ) (visit-at t) visit.Post
-visit-slice-read-colour t c = coloured (c .before .before .before .before .pre .1)
+visit-element-copy-out-colour t c = below-most (c .before .before .pre .1)
 
 visit-returns : (t : ℕ) → visit-lts.Need-returns (
   row-reads.Asked,
@@ -56,7 +56,7 @@ visit-returns : (t : ℕ) → visit-lts.Need-returns (
   walk-row-below t,
   walk-row.Post,
 ) (visit-at t) visit.Post
-visit-returns t c = path-closes (c .before .before .before .before .before .pre .1) (c .if1 .taken)
+visit-returns t c = path-closes (c .before .before .before .before .pre .1) (c .if1 .taken)
 
 visit-returns-2 : (t : ℕ) → visit-lts.Need-returns-2 (
   row-reads.Asked,
@@ -64,15 +64,15 @@ visit-returns-2 : (t : ℕ) → visit-lts.Need-returns-2 (
   walk-row-below t,
   walk-row.Post,
 ) (visit-at t) visit.Post
-visit-returns-2 t c = visited-before (c .before .before .before .before .before .before .pre .1) (c .before .if1 .left) (c .if2 .taken)
+visit-returns-2 t c = visited-before (c .before .before .before .before .before .pre .1) (c .before .if1 .left) (c .if2 .taken)
 
-visit-slice-write-colours : (t : ℕ) → visit-lts.Need-slice-write-colours (
+visit-element-write-colours : (t : ℕ) → visit-lts.Need-element-write-colours (
   row-reads.Asked,
   row-reads.Learnt,
   walk-row-below t,
   walk-row.Post,
 ) (visit-at t) visit.Post
-visit-slice-write-colours t c = coloured (c .before .before .before .before .before .before .pre .1)
+visit-element-write-colours t c = below-most (c .before .before .before .before .before .pre .1)
 
 visit-row-requires : (t : ℕ) → visit-lts.Need-row-requires (
   row-reads.Asked,
@@ -80,7 +80,7 @@ visit-row-requires : (t : ℕ) → visit-lts.Need-row-requires (
   walk-row-below t,
   walk-row.Post,
 ) (visit-at t) visit.Post
-visit-row-requires t c κs = let st = c .before .before .before .before .before .before .before in
+visit-row-requires t c κs = let st = c .before .before .before .before .before .before in
     row-lies _ _ (st .pre .1 .testable .well-formed .starts-fit) (st .args .v) (st .pre .1 .ahead (st .args .v) refl .vertex)
 
 visit-walk-row-requires : (t : ℕ) → visit-lts.Need-walk-row-requires (
@@ -89,18 +89,10 @@ visit-walk-row-requires : (t : ℕ) → visit-lts.Need-walk-row-requires (
   walk-row-below t,
   walk-row.Post,
 ) (visit-at t) visit.Post
-visit-walk-row-requires t c κs = let st = c .before .before .before .before .before .before .before .before in
+visit-walk-row-requires t c κs = let st = c .before .before .before .before .before .before .before in
     let can = st .pre .1 in
     let fewer = enter-unvisited (vertices (st .args .starts .now)) (st .args .colours .now) (st .args .v) (can .ahead (st .args .v) refl .vertex) (coloured can) (c .before .before .if2 .left) in
     (omega (arith, st .pre .0, fewer), rw (c .row .ensures) (row-visitable can))
-
-visit-same-length : (t : ℕ) → visit-lts.Need-same-length (
-  row-reads.Asked,
-  row-reads.Learnt,
-  walk-row-below t,
-  walk-row.Post,
-) (visit-at t) visit.Post
-visit-same-length t c = c .before .before .before .walk-row .kept .1 .1 .0 ∙ simp length-set
 
 visit-returns-3 : (t : ℕ) → visit-lts.Need-returns-3 (
   row-reads.Asked,
@@ -108,25 +100,15 @@ visit-returns-3 : (t : ℕ) → visit-lts.Need-returns-3 (
   walk-row-below t,
   walk-row.Post,
 ) (visit-at t) visit.Post
-visit-returns-3 t c = rw (c .if3 .taken) at (c .before .before .before .walk-row .ensures)
+visit-returns-3 t c = rw (c .if3 .taken) at (c .before .walk-row .ensures)
 
-visit-slice-write-colours-2 : (t : ℕ) → visit-lts.Need-slice-write-colours-2 (
+visit-element-write-colours-2 : (t : ℕ) → visit-lts.Need-element-write-colours-2 (
   row-reads.Asked,
   row-reads.Learnt,
   walk-row-below t,
   walk-row.Post,
 ) (visit-at t) visit.Post
-visit-slice-write-colours-2 t c = let st = c .before .before .before .before .before .before .before .before .before .before .before .before in
-    omega (arith, coloured (st .pre .1), c .before .before .before .walk-row .kept .1 .1 .0, length-set (st .args .colours .now) (st .args .v) 1)
-
-visit-same-length-2 : (t : ℕ) → visit-lts.Need-same-length-2 (
-  row-reads.Asked,
-  row-reads.Learnt,
-  walk-row-below t,
-  walk-row.Post,
-) (visit-at t) visit.Post
-visit-same-length-2 t c = simp length-set (let st = c .before .before .before .before .before .before .before .before .before .before .before .before in
-    c .before .before .before .walk-row .kept .1 .1 .0 ∙ length-set (st .args .colours .now) (st .args .v) 1)
+visit-element-write-colours-2 t c = below-most (c .before .before .before .before .before .before .before .before .before .pre .1)
 
 visit-returns-4 : (t : ℕ) → visit-lts.Need-returns-4 (
   row-reads.Asked,
@@ -134,8 +116,8 @@ visit-returns-4 : (t : ℕ) → visit-lts.Need-returns-4 (
   walk-row-below t,
   walk-row.Post,
 ) (visit-at t) visit.Post
-visit-returns-4 t c = let st = c .before .before .before .before .before .before .before .before .before .before .before .before in
-    row-visited (st .pre .1) (c .before .before .before .before .before .before .if2 .left) (rw (c .before .before .before .before .row .ensures) at (rw (c .if3 .left) at (c .before .before .before .walk-row .ensures)))
+visit-returns-4 t c = let st = c .before .before .before .before .before .before .before .before .before in
+    row-visited (st .pre .1) (c .before .before .before .before .if2 .left) (rw (c .before .before .row .ensures) at (rw (c .if3 .left) at (c .before .walk-row .ensures)))
 
 abbrev walk-row-Inv-loop : walk-row-lts.InvT-loop
 walk-row-Inv-loop starts targets colours₀ row k₀ colours k =
@@ -152,7 +134,7 @@ walk-row-loop-holds :
     walk-row.Post
     walk-row-Inv-loop
     walk-row-μ-loop
-walk-row-loop-holds t c = let st = c .before .before .before .before in
+walk-row-loop-holds t c = let st = c .before .before .before in
     (omega arith, visited-none (st .pre .1) (first-none (st .args .row .now)))
 
 walk-row-mul-visit :
@@ -189,21 +171,11 @@ walk-row-visit-requires :
     walk-row.Post
     walk-row-Inv-loop
     walk-row-μ-loop
-walk-row-visit-requires t c κs = let st = c .before .before .before .before .before .before .before .before in
+walk-row-visit-requires t c κs = let st = c .before .before .before .before .before .before .before in
     let at = c .before .before .before .loop in
     let u = getD (st .args .row .now) (at .k) 0 in
     let fewer = onward-unvisited (vertices (st .args .starts .now)) (at .inv .1 .onward) in
     (omega (arith, st .pre .0, fewer), visitable-later u (record { place = at .k; inside = c .before .before .loop-test .taken; stands = refl }) (st .pre .1) (at .inv .1))
-
-walk-row-same-length :
-    (t : ℕ) →
-    walk-row-lts.Need-same-length
-    (visit-below t, visit.Post)
-    (walk-row-at t)
-    walk-row.Post
-    walk-row-Inv-loop
-    walk-row-μ-loop
-walk-row-same-length t c = c .before .before .before .visit .kept .1 .1 .0 ∙ c .before .before .before .before .before .before .before .loop .inv .1 .onward .same
 
 walk-row-returns :
     (t : ℕ) →
@@ -213,7 +185,7 @@ walk-row-returns :
     walk-row.Post
     walk-row-Inv-loop
     walk-row-μ-loop
-walk-row-returns t c = rw (c .if1 .taken) at (c .before .before .before .visit .ensures)
+walk-row-returns t c = rw (c .if1 .taken) at (c .before .visit .ensures)
 
 walk-row-add-k :
     (t : ℕ) →
@@ -243,19 +215,9 @@ walk-row-loop-again :
     walk-row.Post
     walk-row-Inv-loop
     walk-row-μ-loop
-walk-row-loop-again t c = let st = c .before .before .before .before .before .before .before .before .before .before .before .before in
-    let at = c .before .before .before .before .before .before .before .loop in
-    (omega (arith, c .before .before .before .before .before .before .loop-test .taken), visited-more (at .inv .1) (rw (c .if1 .left) at (c .before .before .before .visit .ensures)) (first-more (at .k) (st .args .row .now)))
-
-walk-row-same-length-2 :
-    (t : ℕ) →
-    walk-row-lts.Need-same-length-2
-    (visit-below t, visit.Post)
-    (walk-row-at t)
-    walk-row.Post
-    walk-row-Inv-loop
-    walk-row-μ-loop
-walk-row-same-length-2 t c = c .before .loop .inv .1 .onward .same
+walk-row-loop-again t c = let st = c .before .before .before .before .before .before .before .before .before in
+    let at = c .before .before .before .before .before .loop in
+    (omega (arith, c .before .before .before .before .loop-test .taken), visited-more (at .inv .1) (rw (c .if1 .left) at (c .before .visit .ensures)) (first-more (at .k) (st .args .row .now)))
 
 walk-row-returns-2 :
     (t : ℕ) →
@@ -265,7 +227,7 @@ walk-row-returns-2 :
     walk-row.Post
     walk-row-Inv-loop
     walk-row-μ-loop
-walk-row-returns-2 t c = let st = c .before .before .before .before .before .before in
+walk-row-returns-2 t c = let st = c .before .before .before .before .before in
     let at = c .before .loop in
     visited-some (at .inv .1) (λ u. first-all (at .k) (st .args .row .now) u (c .loop-test .left))
 
@@ -278,16 +240,14 @@ pub +visit+walk-row-spec : {M : Type 1} → statement M
 )
     (visit-at t)
     visit.Post
-    (visit-slice-read-colour t)
+    (visit-element-copy-out-colour t)
     (visit-returns t)
     (visit-returns-2 t)
-    (visit-slice-write-colours t)
+    (visit-element-write-colours t)
     (visit-row-requires t)
     (visit-walk-row-requires t)
-    (visit-same-length t)
     (visit-returns-3 t)
-    (visit-slice-write-colours-2 t)
-    (visit-same-length-2 t)
+    (visit-element-write-colours-2 t)
     (visit-returns-4 t))
     λ t. walk-row-lts.spec
     (visit-below t, visit.Post)
@@ -300,10 +260,8 @@ pub +visit+walk-row-spec : {M : Type 1} → statement M
     (walk-row-shared-slice-read-visit t)
     (walk-row-cast-visit t)
     (walk-row-visit-requires t)
-    (walk-row-same-length t)
     (walk-row-returns t)
     (walk-row-add-k t)
     (walk-row-loop-less t)
     (walk-row-loop-again t)
-    (walk-row-same-length-2 t)
     (walk-row-returns-2 t)

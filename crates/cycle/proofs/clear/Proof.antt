@@ -17,8 +17,8 @@ abbrev μ-loop : tie.MeasureT-loop
 loop-holds : tie.Need-loop-holds Inv-loop μ-loop
 loop-holds c = (omega arith, record { same = refl; unvisited = λ v l. absurd (omega (arith, l)) })
 
-slice-write-colours : tie.Need-slice-write-colours Inv-loop μ-loop
-slice-write-colours c = omega (arith, c .before .loop .inv .1 .same)
+element-write-colours : tie.Need-element-write-colours Inv-loop μ-loop
+element-write-colours c = omega arith
 
 add-u : tie.Need-add-u Inv-loop μ-loop
 add-u c = omega arith
@@ -28,9 +28,6 @@ loop-less c = search needs
 
 loop-again : tie.Need-loop-again Inv-loop μ-loop
 loop-again c = (omega arith, cleared-more (c .before .loop .u) (omega arith) (c .before .loop .inv .1))
-
-same-length : tie.Need-same-length Inv-loop μ-loop
-same-length c = c .before .loop .inv .1 .same
 
 returns : tie.Need-returns Inv-loop μ-loop
 returns c = let all : c .before .loop .u ≡ c .before .before .args .n = omega arith in
@@ -43,9 +40,8 @@ clear-spec =
     Inv-loop
     μ-loop
     loop-holds
-    slice-write-colours
+    element-write-colours
     add-u
     loop-less
     loop-again
-    same-length
     returns)

@@ -15,23 +15,21 @@ abbrev μ-loop : tie.MeasureT-loop
 μ-loop starts targets colours₀ n v₀ colours v = n - v
 
 sub-n : tie.Need-sub-n Inv-loop μ-loop
-sub-n c = omega (arith, c .before .before .before .pre .well-formed .some)
+sub-n c = omega (arith, c .before .before .pre .well-formed .some)
 
 clear-requires : tie.Need-clear-requires Inv-loop μ-loop
-clear-requires c κs = c .before .before .before .before .pre .room
+clear-requires c κs = let st = c .before .before .before in
+    (st .pre .room, omega (arith, st .pre .well-formed .some, st .pre .well-formed .most-vertices))
 
 loop-holds : tie.Need-loop-holds Inv-loop μ-loop
-loop-holds c = (omega arith, visited-none (all-visitable (c .before .before .before .before .before .before .before .pre) (c .before .before .clear .ensures)) (λ u l. omega (arith, l)))
+loop-holds c = (omega arith, visited-none (all-visitable (c .before .before .before .before .pre) (c .clear .ensures)) (λ u l. omega (arith, l)))
 
 visit-requires : tie.Need-visit-requires Inv-loop μ-loop
 visit-requires c κs = let at = c .before .before .loop in
-    visitable-later (at .v) (omega arith) (all-visitable (c .before .before .before .before .before .before .before .before .before .before .pre) (c .before .before .before .before .before .clear .ensures)) (at .inv .1)
-
-same-length : tie.Need-same-length Inv-loop μ-loop
-same-length c = c .before .before .before .visit .kept .1 .1 .0 ∙ c .before .before .before .before .before .before .loop .inv .1 .onward .same ∙ c .before .before .before .before .before .before .before .before .before .clear .ensures .same
+    visitable-later (at .v) (omega arith) (all-visitable (c .before .before .before .before .before .before .before .pre) (c .before .before .before .clear .ensures)) (at .inv .1)
 
 returns : tie.Need-returns Inv-loop μ-loop
-returns c = rw (c .if1 .taken) at (c .before .before .before .visit .ensures)
+returns c = rw (c .if1 .taken) at (c .before .visit .ensures)
 
 add-v : tie.Need-add-v Inv-loop μ-loop
 add-v c = omega arith
@@ -40,11 +38,8 @@ loop-less : tie.Need-loop-less Inv-loop μ-loop
 loop-less c = search needs
 
 loop-again : tie.Need-loop-again Inv-loop μ-loop
-loop-again c = let at = c .before .before .before .before .before .before .loop in
-    (omega arith, visited-more (at .inv .1) (rw (c .if1 .left) at (c .before .before .before .visit .ensures)) (below-more (at .v)))
-
-same-length-2 : tie.Need-same-length-2 Inv-loop μ-loop
-same-length-2 c = c .before .loop .inv .1 .onward .same ∙ c .before .before .before .before .clear .ensures .same
+loop-again c = let at = c .before .before .before .before .loop in
+    (omega arith, visited-more (at .inv .1) (rw (c .if1 .left) at (c .before .visit .ensures)) (below-more (at .v)))
 
 returns-2 : tie.Need-returns-2 Inv-loop μ-loop
 returns-2 c = done-no-cycle (visited-some (c .before .loop .inv .1) (λ u l. omega (arith, l)))
@@ -59,10 +54,8 @@ has-cycle-spec =
     clear-requires
     loop-holds
     visit-requires
-    same-length
     returns
     add-v
     loop-less
     loop-again
-    same-length-2
     returns-2)
