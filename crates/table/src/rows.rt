@@ -18,9 +18,9 @@ pub fn row<'a>(starts: &[u32], targets: &'a [u32], v: usize) -> &'a [u32]
 pub fn rises(row: &[u32]) -> bool
     ensures { λ r. ⌜ Says r (Rises (now (row .entry))) ⌝ }
 {
-    let mut k = 0;
-    while k + 1 < row.len() {
-        if row[k + 1] <= row[k] {
+    let mut k = 1;
+    while k < row.len() {
+        if row[k] <= row[k - 1] {
             return false;
         }
         k += 1;
