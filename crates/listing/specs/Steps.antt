@@ -39,14 +39,14 @@ pub record JudgeReady (starts targets : List ℕ) (s t : ℕ) (parents left orde
   pub left-long : length left ≡ vertices starts
   pub order-long : length order ≡ vertices starts
 
--- the same with slices of 2,048
+-- the same with slices of n or more
 pub record JudgeRoom (starts targets : List ℕ) (s t : ℕ) (parents left order : List ℕ) : Type 0 where
   pub well-formed : WellFormed starts targets
   pub entrance : s < vertices starts
   pub exit : t < vertices starts
-  pub parents-long : length parents ≡ 2048
-  pub left-long : length left ≡ 2048
-  pub order-long : length order ≡ 2048
+  pub parents-room : vertices starts ≤ length parents
+  pub left-room : vertices starts ≤ length left
+  pub order-room : vertices starts ≤ length order
 
 -- each of the vertices was added to the set
 pub record AllAdded (words words′ vertices : List ℕ) : Type 0 where

@@ -83,7 +83,7 @@ fn judge_with(
     }
 }
 
-// The same with slices of 2,048, whose first n are worked on.
+// The same with slices of n or more, whose first n are worked on.
 fn judge_in(
     starts: &[u32],
     targets: &[u32],
@@ -108,7 +108,7 @@ fn judge_in(
     )
 }
 
-// Judges a pair: 1 to 5, then 13, the smallest, or 0 with the answer. s = t is a no.
+// Judges a pair: 1 to 5, then 13, the smallest, or 0 with the answer. s = t is a no. A small table is worked on in small arrays, which are cleared sooner.
 pub fn judge(starts: &[u32], targets: &[u32], s: u32, t: u32) -> Judgement
     ensures { λ r. ⌜ JudgeDone (now (starts .entry)) (now (targets .entry)) s t (r .number) (r .yes) (r .size) ⌝ }
 {
@@ -134,6 +134,18 @@ pub fn judge(starts: &[u32], targets: &[u32], s: u32, t: u32) -> Judgement
             yes: false,
             size: 0,
         };
+    }
+    if n <= 64 {
+        let mut parents = [0u32; 64];
+        let mut left = [0u32; 64];
+        let mut order = [0u32; 64];
+        return judge_in(starts, targets, s, t, &mut parents, &mut left, &mut order);
+    }
+    if n <= 256 {
+        let mut parents = [0u32; 256];
+        let mut left = [0u32; 256];
+        let mut order = [0u32; 256];
+        return judge_in(starts, targets, s, t, &mut parents, &mut left, &mut order);
     }
     let mut parents = [0u32; 2048];
     let mut left = [0u32; 2048];

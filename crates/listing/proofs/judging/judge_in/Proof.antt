@@ -1,6 +1,7 @@
 -- `listing::judging::judge_in` meets its contract: the first n of each slice are lent. Assumes nothing.
 use mathlib.Core.Path.{sym}
-use Rattle.table.proofs.FrontLaws.{front-long}
+use lib.Seq.{length-take-le}
+use Rattle.table.specs.Table.{vertices}
 use borrow.Author.Needs.{needs}
 use Rattle.listing.proofs.judging.judge_in.Statement.{statement}
 use Rattle.listing.proofs.judging.judge_in.Tie as tie
@@ -12,19 +13,19 @@ slice-relend-prefix-judge-with : tie.Need-slice-relend-prefix-judge-with
 slice-relend-prefix-judge-with c = search needs
 
 slice-aggregate-judge-with : tie.Need-slice-aggregate-judge-with
-slice-aggregate-judge-with c = sym (front-long (c .before .before .before .before .before .before .args .starts .now) (c .before .before .before .before .before .before .args .targets .now) (c .before .before .before .before .before .before .args .parents .now) (c .before .before .before .before .before .before .pre .well-formed) (c .before .before .before .before .before .before .pre .parents-long))
+slice-aggregate-judge-with c = sym (length-take-le (vertices (c .before .before .before .before .before .before .args .starts .now)) (c .before .before .before .before .before .before .args .parents .now) (c .before .before .before .before .before .before .pre .parents-room))
 
 slice-relend-prefix-judge-with-2 : tie.Need-slice-relend-prefix-judge-with-2
 slice-relend-prefix-judge-with-2 c = search needs
 
 slice-aggregate-judge-with-2 : tie.Need-slice-aggregate-judge-with-2
-slice-aggregate-judge-with-2 c = sym (front-long (c .before .before .before .before .before .before .before .args .starts .now) (c .before .before .before .before .before .before .before .args .targets .now) (c .before .before .before .before .before .before .before .args .left .now) (c .before .before .before .before .before .before .before .pre .well-formed) (c .before .before .before .before .before .before .before .pre .left-long))
+slice-aggregate-judge-with-2 c = sym (length-take-le (vertices (c .before .before .before .before .before .before .before .args .starts .now)) (c .before .before .before .before .before .before .before .args .left .now) (c .before .before .before .before .before .before .before .pre .left-room))
 
 slice-relend-prefix-judge-with-3 : tie.Need-slice-relend-prefix-judge-with-3
 slice-relend-prefix-judge-with-3 c = search needs
 
 slice-aggregate-judge-with-3 : tie.Need-slice-aggregate-judge-with-3
-slice-aggregate-judge-with-3 c = sym (front-long (c .before .before .before .before .before .before .before .before .args .starts .now) (c .before .before .before .before .before .before .before .before .args .targets .now) (c .before .before .before .before .before .before .before .before .args .order .now) (c .before .before .before .before .before .before .before .before .pre .well-formed) (c .before .before .before .before .before .before .before .before .pre .order-long))
+slice-aggregate-judge-with-3 c = sym (length-take-le (vertices (c .before .before .before .before .before .before .before .before .args .starts .now)) (c .before .before .before .before .before .before .before .before .args .order .now) (c .before .before .before .before .before .before .before .before .pre .order-room))
 
 judge-with-requires : tie.Need-judge-with-requires
 judge-with-requires c κs = let room = c .before .before .before .before .before .before .before .before .pre in
@@ -32,9 +33,9 @@ judge-with-requires c κs = let room = c .before .before .before .before .before
       well-formed = room .well-formed;
       entrance = room .entrance;
       exit = room .exit;
-      parents-long = front-long (c .before .before .before .before .before .before .before .before .args .starts .now) (c .before .before .before .before .before .before .before .before .args .targets .now) (c .before .before .before .before .before .before .before .before .args .parents .now) (room .well-formed) (room .parents-long);
-      left-long = front-long (c .before .before .before .before .before .before .before .before .args .starts .now) (c .before .before .before .before .before .before .before .before .args .targets .now) (c .before .before .before .before .before .before .before .before .args .left .now) (room .well-formed) (room .left-long);
-      order-long = front-long (c .before .before .before .before .before .before .before .before .args .starts .now) (c .before .before .before .before .before .before .before .before .args .targets .now) (c .before .before .before .before .before .before .before .before .args .order .now) (room .well-formed) (room .order-long);
+      parents-long = length-take-le (vertices (c .before .before .before .before .before .before .before .before .args .starts .now)) (c .before .before .before .before .before .before .before .before .args .parents .now) (room .parents-room);
+      left-long = length-take-le (vertices (c .before .before .before .before .before .before .before .before .args .starts .now)) (c .before .before .before .before .before .before .before .before .args .left .now) (room .left-room);
+      order-long = length-take-le (vertices (c .before .before .before .before .before .before .before .before .args .starts .now)) (c .before .before .before .before .before .before .before .before .args .order .now) (room .order-room);
     }
 
 same-length : tie.Need-same-length
