@@ -88,7 +88,7 @@ u32 plain_list(const u32 *starts, usize starts_len, const u32 *targets, usize m,
     if (out_len < 2 * n) return 8;
     u32 parents[MOST], left[MOST], order[MOST];
     count_parents(targets, m, parents, n);
-    count_parents(targets, m, left, n);
+    memcpy(left, parents, n * sizeof *left);
     usize pairs = 0;
     for (u32 s = 0; s < n; s++) {
         u32 t;
@@ -113,7 +113,7 @@ u32 plain_judge(const u32 *starts, usize starts_len, const u32 *targets, usize m
     if (s >= n || t >= n) return 13;
     u32 parents[MOST], left[MOST], order[MOST];
     count_parents(targets, m, parents, n);
-    count_parents(targets, m, left, n);
+    memcpy(left, parents, n * sizeof *left);
     u32 exit;
     usize visited;
     if (!search(starts, targets, parents, left, order, s, &exit, &visited) || exit != t) return 0;
@@ -229,7 +229,7 @@ u32 plain_fold(const u32 *starts, usize starts_len, const u32 *targets, usize m,
     u32 parents[MOST], left[MOST], order[MOST], exits[MOST], next[MOST];
     u64 best[MOST];
     count_parents(targets, m, parents, n);
-    count_parents(targets, m, left, n);
+    memcpy(left, parents, n * sizeof *left);
     usize found = find_candidates(starts, targets, n, parents, left, order, exits);
     for (usize v = 0; v < n; v++) next[v] = n;
     memcpy(counts2, counts, n * sizeof *counts);

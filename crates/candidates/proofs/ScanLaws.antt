@@ -17,7 +17,6 @@ use Rattle.search.specs.declared.Exit.the-variants.{At, Nothing}
 use Rattle.search.specs.Search.{Parents, Visited, Searched, Sought}
 use Rattle.search.specs.Steps.{Zeros}
 use Rattle.search.proofs.OccurrenceLaws.{in-take, take-in}
-use Rattle.search.proofs.TallyLaws.{parents-same}
 use Rattle.candidates.specs.Candidates.{entrances, Found}
 use Rattle.candidates.specs.Steps.{inner, Notable, Noted, Filled, Passed, Scan}
 use Rattle.candidates.proofs.PassLaws.{pass-start, pass-ruled, pass-none, pass-taken, pass-most, pass-sound, pass-no-other}
@@ -72,10 +71,10 @@ module _ {starts targets order : List ℕ} {s t k : ℕ} (visited : Visited star
 
 -- no entrance is passed yet
 pub scan-start : {starts targets parents left order exits exits′ : List ℕ} → WellFormed starts targets → Parents (vertices starts) targets parents
-    → Parents (vertices starts) targets left → length order ≡ vertices starts → length exits ≡ vertices starts → Zeros exits exits′
+    → left ≡ parents → length order ≡ vertices starts → length exits ≡ vertices starts → Zeros exits exits′
     → Scan starts targets parents left order exits′ 0
-scan-start {exits′ = exits′} ok a b room long zeros =
-    record { well-formed = ok; counted = a; whole = parents-same b a; room = room; passed = pass-start exits′ (zeros .same ∙ long) (zeros .zeros) }
+scan-start {exits′ = exits′} ok a same room long zeros =
+    record { well-formed = ok; counted = a; whole = same; room = room; passed = pass-start exits′ (zeros .same ∙ long) (zeros .zeros) }
 
 module _ {starts targets parents left order exits : List ℕ} {s : ℕ} (scan : Scan starts targets parents left order exits s) where
   -- s is ruled out

@@ -8,6 +8,7 @@ ghost use Rattle.candidates.specs.Candidates.{entrances, Findable, Found
 ghost use Rattle.candidates.specs.Steps.{RuledOut, Settling, Settled, Notable, Noted, Scan};
 use search::Exit;
 use search::clear;
+use search::copy;
 use search::count_parents;
 use search::search;
 
@@ -98,7 +99,7 @@ pub fn find(
     ensures { λ r. ⌜ Found (now (starts .entry)) (now (targets .entry)) (now (parents .exit)) (now (left .exit)) (now (order .exit)) (now (exits .exit)) r ⌝ }
 {
     count_parents(targets, parents);
-    count_parents(targets, left);
+    copy(parents, left);
     clear(exits);
     let n = starts.len() - 1;
     let mut s: usize = 0;

@@ -1,4 +1,4 @@
--- Laws of filling a slice: with one number, and with the numbers of another. Assumes nothing.
+-- Laws of filling a slice with one number. Assumes nothing.
 use Prim.Native.Nat.{ℕ, _+_, _<_}
 use mathlib.Core.Path.{_≡_, sym, ap, _∙_}
 use mathlib.Core.List.{List, [], _∷_, _++_, append-nil}
@@ -16,23 +16,3 @@ filled-more list v n h before j l =
       | yes e ↦ rw e (getD-set-same list v n 0 h)
       | no other ↦ getD-set-other list v j n 0 other ∙ before j (omega arith)
     ]
-
--- one number more is copied
-pub copied-more : (from out list : List ℕ) (v : ℕ) → v < length from → v < length out → list ≡ take v from ++ drop v out
-    → set list v (getD from v 0) ≡ take (v + 1) from ++ drop (v + 1) out
-copied-more from out list v h l e =
-    let long : length (take v from) ≡ v = length-take-le v from (omega arith) in
-    let one-more : take v from ++ getD from v 0 ∷ [] ≡ take (v + 1) from = sym (ap (λ (k : ℕ). take k from) (add-one v) ∙ take-suc from v 0 h) in
-    ap (λ (x : List ℕ). set x v (getD from v 0)) e
-    ∙ front-more (take v from) out (getD from v 0) v long l
-    ∙ ap (λ (x : List ℕ). x ++ drop (v + 1) out) one-more
-
--- all numbers are copied
-pub copied-all : (from out list : List ℕ) → length out ≡ length from → list ≡ take (length from) from ++ drop (length from) out → list ≡ from
-copied-all from out list same e =
-    let none : drop (length from) out ≡ [] = rw (← same) (drop-length out) in
-    e ∙ ap (λ (x : List ℕ). take (length from) from ++ x) none ∙ append-nil (take (length from) from) ∙ take-all (length from) from (omega arith)
-
-pub copied-length : (from out list : List ℕ) (v : ℕ) → v < length from + 1 → length out ≡ length from → list ≡ take v from ++ drop v out → length list ≡ length out
-copied-length from out list v h same e =
-    ap length e ∙ length-append (take v from) (drop v out) ∙ omega (arith, length-take v from, length-drop v out)

@@ -13,7 +13,6 @@ use Rattle.bubble.proofs.Unique.{exit-unique}
 use Rattle.search.specs.declared.Exit.{Exit}
 use Rattle.search.specs.declared.Exit.the-variants.{At, Nothing}
 use Rattle.search.specs.Search.{Parents, Searchable, Sought}
-use Rattle.search.proofs.TallyLaws.{parents-same}
 use Rattle.listing.specs.Listing.{ListedAt}
 use Rattle.listing.specs.Steps.{Line}
 use Rattle.listing.proofs.ListLaws.{Before, listed-none, listed-same, listed-without, listed-more}
@@ -31,13 +30,13 @@ pub record Scan (starts targets parents left order out out′ : List ℕ) (n fou
   pub lines : ListedAt (Before (Superbubble (Edge starts targets)) s) out out′ found
 
 pub scan-start : (starts targets parents left order out : List ℕ) (n : ℕ) → WellFormed starts targets → n ≡ vertices starts → Parents (vertices starts) targets parents
-    → Parents (vertices starts) targets left → vertices starts ≤ length order → 2 * n ≤ length out → Scan starts targets parents left order out out n 0 0
-scan-start starts targets parents left order out n ok all a b order-room room =
+    → left ≡ parents → vertices starts ≤ length order → 2 * n ≤ length out → Scan starts targets parents left order out out n 0 0
+scan-start starts targets parents left order out n ok all a same order-room room =
     record {
       well-formed = ok;
       all = all;
       counted = a;
-      whole = parents-same b a;
+      whole = same;
       order-room = order-room;
       passed = omega arith;
       few = omega arith;

@@ -8,6 +8,7 @@ ghost use Rattle.vertices.specs.Vertices.{Words, Numbers};
 ghost use Rattle.listing.specs.Listing.{Judged, JudgeDone};
 ghost use Rattle.listing.specs.Steps.{AllAdded, JudgeReady, JudgeRoom};
 use search::Exit;
+use search::copy;
 use search::count_parents;
 use search::search;
 use vertices::put;
@@ -68,7 +69,7 @@ fn judge_with(
     ensures { λ r. ⌜ (r .number ≡ 0) × Judged (now (starts .entry)) (now (targets .entry)) s t (r .yes) (r .size) ⌝ }
 {
     count_parents(targets, parents);
-    count_parents(targets, left);
+    copy(parents, left);
     let exit = search(starts, targets, parents, left, order, s);
     let Exit::At(x, k) = exit else {
         return no();

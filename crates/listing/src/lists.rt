@@ -6,6 +6,7 @@ ghost use Rattle.bubble.specs.Superbubble.{Superbubble};
 ghost use Rattle.listing.specs.Listing.{ListedAt, ListDone};
 ghost use Rattle.listing.specs.Steps.{Line, ListReady, ListRoom};
 use search::Exit;
+use search::copy;
 use search::count_parents;
 use search::search;
 
@@ -43,7 +44,7 @@ fn list_with(
     ensures { λ r. ⌜ ListedAt (Superbubble (Edge (now (starts .entry)) (now (targets .entry)))) (now (out .entry)) (now (out .exit)) r ⌝ }
 {
     count_parents(targets, parents);
-    count_parents(targets, left);
+    copy(parents, left);
     let n = starts.len() - 1;
     let mut found = 0;
     let mut s: usize = 0;

@@ -1,5 +1,6 @@
 // How often each vertex stands in a list, and with it how many edges lead to each vertex.
 ghost use Prim.Native.Nat.{_≤_};
+ghost use mathlib.Core.Path.{_≡_};
 ghost use lib.ListN.{length};
 ghost use Rattle.table.specs.Table.{Below};
 ghost use Rattle.search.specs.Search.{Parents};
@@ -37,4 +38,16 @@ pub fn count_parents(targets: &[u32], parents: &mut [u32])
 {
     clear(parents);
     tally(targets, parents);
+}
+
+// Copies the counts, so that one copy is read and the other worked on.
+pub fn copy(counts: &[u32], out: &mut [u32])
+    requires { ⌜ length (now out) ≡ length (now counts) ⌝ }
+    ensures { λ _. ⌜ now (out .exit) ≡ now (counts .entry) ⌝ }
+{
+    let mut v = 0;
+    while v < counts.len() {
+        out[v] = counts[v];
+        v += 1;
+    }
 }

@@ -4,6 +4,7 @@ mod rows;
 mod visits;
 
 pub use counts::clear;
+pub use counts::copy;
 pub use counts::count_parents;
 pub use visits::search;
 

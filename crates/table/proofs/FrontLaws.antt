@@ -1,11 +1,11 @@
--- Laws of a slice that is filled from its front. Assumes nothing.
+-- Laws of a slice that is filled from its front, and of one that becomes a copy of another. Assumes nothing.
 use Prim.Native.Nat.{ℕ, _+_, _<_}
-use mathlib.Core.Path.{_≡_, sym}
-use mathlib.Core.List.{List, [], _∷_, _++_, append-assoc}
+use mathlib.Core.Path.{_≡_, sym, ap, _∙_}
+use mathlib.Core.List.{List, [], _∷_, _++_, append-assoc, append-nil}
 use native.Mathlib.Numerals.{add-one}
 use native.Mathlib.Omega.{arith}
-use lib.ListN.{length, getD, take, drop, set}
-use lib.Seq.{drop-cons, set-at, length-take-le}
+use lib.ListN.{length, getD, take, drop, set, length-take, length-append, length-drop}
+use lib.Seq.{drop-cons, drop-length, set-at, take-suc, take-all, length-take-le}
 use Rattle.table.specs.Table.{vertices, WellFormed}
 
 -- the number at a place, and the rest
@@ -20,3 +20,23 @@ front-more front list v n e h =
 -- the first n of a slice of 2,048 are n
 pub front-long : (starts targets list : List ℕ) → WellFormed starts targets → length list ≡ 2048 → length (take (vertices starts) list) ≡ vertices starts
 front-long starts targets list ok long = length-take-le (vertices starts) list (omega (arith, ok .most-vertices))
+
+-- one number more is copied
+pub copied-more : (from out list : List ℕ) (v : ℕ) → v < length from → v < length out → list ≡ take v from ++ drop v out
+    → set list v (getD from v 0) ≡ take (v + 1) from ++ drop (v + 1) out
+copied-more from out list v h l e =
+    let long : length (take v from) ≡ v = length-take-le v from (omega arith) in
+    let one-more : take v from ++ getD from v 0 ∷ [] ≡ take (v + 1) from = sym (ap (λ (k : ℕ). take k from) (add-one v) ∙ take-suc from v 0 h) in
+    ap (λ (x : List ℕ). set x v (getD from v 0)) e
+    ∙ front-more (take v from) out (getD from v 0) v long l
+    ∙ ap (λ (x : List ℕ). x ++ drop (v + 1) out) one-more
+
+-- all numbers are copied
+pub copied-all : (from out list : List ℕ) → length out ≡ length from → list ≡ take (length from) from ++ drop (length from) out → list ≡ from
+copied-all from out list same e =
+    let none : drop (length from) out ≡ [] = rw (← same) (drop-length out) in
+    e ∙ ap (λ (x : List ℕ). take (length from) from ++ x) none ∙ append-nil (take (length from) from) ∙ take-all (length from) from (omega arith)
+
+pub copied-length : (from out list : List ℕ) (v : ℕ) → v < length from + 1 → length out ≡ length from → list ≡ take v from ++ drop v out → length list ≡ length out
+copied-length from out list v h same e =
+    ap length e ∙ length-append (take v from) (drop v out) ∙ omega (arith, length-take v from, length-drop v out)

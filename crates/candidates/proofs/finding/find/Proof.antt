@@ -21,10 +21,8 @@ count-parents-requires c κs =
     let ready = c .before .before .before .before .before .before .before .pre in
     (rw (ready .parents-long) (ready .well-formed .targets-below), ready .well-formed .most-edges)
 
-count-parents-requires-2 : tie.Need-count-parents-requires-2 Inv-loop μ-loop
-count-parents-requires-2 c κs =
-    let ready = c .before .before .before .before .before .before .before .before .before .before .before .pre in
-    (rw (ready .left-long) (ready .well-formed .targets-below), ready .well-formed .most-edges)
+copy-requires : tie.Need-copy-requires Inv-loop μ-loop
+copy-requires c κs = search needs
 
 clear-requires : tie.Need-clear-requires Inv-loop μ-loop
 clear-requires c κs = search needs
@@ -34,9 +32,9 @@ sub-n c = search needs
 
 loop-holds : tie.Need-loop-holds Inv-loop μ-loop
 loop-holds c =
-    let ready = c .before .before .before .before .before .before .before .before .before .before .before .before .before .before .before .before .before .before .pre in (
+    let ready = c .before .before .before .before .before .before .before .before .before .before .before .before .before .before .before .before .before .before .before .pre in (
       refl,
-      scan-start (ready .well-formed) (rw (ready .parents-long) at (c .before .before .before .before .before .before .before .before .before .before .count-parents .ensures)) (rw (ready .left-long) at (c .before .before .before .before .before .before .count-parents2 .ensures)) (ready .order-long)
+      scan-start (ready .well-formed) (rw (ready .parents-long) at (c .before .before .before .before .before .before .before .before .before .before .before .count-parents .ensures)) (c .before .before .before .before .before .before .copy .ensures) (ready .order-long)
           (ready .exits-long) (c .before .before .clear .ensures),
     )
 
@@ -59,13 +57,13 @@ same-length : tie.Need-same-length Inv-loop μ-loop
 same-length c = search needs
 
 same-length-2 : tie.Need-same-length-2 Inv-loop μ-loop
-same-length-2 c = let scan = c .before .before .before .loop .inv .1 in ap length (scan .whole) ∙ scan .counted .each ∙ sym (c .before .before .before .before .before .before .before .before .before .before .before .before .before .before .before .before .before .before .before .before .before .before .pre .left-long)
+same-length-2 c = let scan = c .before .before .before .loop .inv .1 in ap length (scan .whole) ∙ scan .counted .each ∙ sym (c .before .before .before .before .before .before .before .before .before .before .before .before .before .before .before .before .before .before .before .before .before .before .before .pre .left-long)
 
 same-length-3 : tie.Need-same-length-3 Inv-loop μ-loop
-same-length-3 c = c .before .before .before .loop .inv .1 .room ∙ sym (c .before .before .before .before .before .before .before .before .before .before .before .before .before .before .before .before .before .before .before .before .before .before .pre .order-long)
+same-length-3 c = c .before .before .before .loop .inv .1 .room ∙ sym (c .before .before .before .before .before .before .before .before .before .before .before .before .before .before .before .before .before .before .before .before .before .before .before .pre .order-long)
 
 same-length-4 : tie.Need-same-length-4 Inv-loop μ-loop
-same-length-4 c = c .before .before .before .loop .inv .1 .passed .each ∙ sym (c .before .before .before .before .before .before .before .before .before .before .before .before .before .before .before .before .before .before .before .before .before .before .pre .exits-long)
+same-length-4 c = c .before .before .before .loop .inv .1 .passed .each ∙ sym (c .before .before .before .before .before .before .before .before .before .before .before .before .before .before .before .before .before .before .before .before .before .before .before .pre .exits-long)
 
 returns : tie.Need-returns Inv-loop μ-loop
 returns c = scan-done (c .before .before .before .loop .inv .1) (c .count .result) (omega arith) (c .count .ensures)
@@ -77,7 +75,7 @@ find-spec =
     Inv-loop
     μ-loop
     count-parents-requires
-    count-parents-requires-2
+    copy-requires
     clear-requires
     sub-n
     loop-holds

@@ -4,7 +4,7 @@ use Prim.Native.Nat.{_-_, _≤_}
 use mathlib.Core.Path.{_≡_}
 use mathlib.Core.List.{_++_}
 use lib.ListN.{length, take, drop}
-use Rattle.folding.proofs.FillLaws.{copied-more, copied-all, copied-length}
+use Rattle.table.proofs.FrontLaws.{copied-more, copied-all, copied-length}
 use borrow.Author.Needs.{needs}
 use Rattle.folding.proofs.turns.copy_counts.Statement.{statement}
 use Rattle.folding.proofs.turns.copy_counts.Tie as tie

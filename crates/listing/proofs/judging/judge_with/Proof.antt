@@ -4,29 +4,27 @@ use mathlib.Core.Path.{refl, sym}
 use lib.Seq.{length-take-le}
 use Rattle.bubble.proofs.Unique.{exit-unique}
 use Rattle.search.specs.Search.{Visited}
-use Rattle.search.proofs.TallyLaws.{parents-same}
 use Rattle.listing.proofs.CountLaws.{visited-below, judged-no, judged-yes}
 use borrow.Author.Needs.{needs}
 use Rattle.listing.proofs.judging.judge_with.Statement.{statement}
 use Rattle.listing.proofs.judging.judge_with.Tie as tie
 
-visited : (c : tie.After-exit) → Visited (c .before .before .before .before .before .before .before .before .before .before .before .before .before .before .before .before .before .before .before .before .before .before .before .args .starts .now) (c .before .before .before .before .before .before .before .before .before .before .before .before .before .before .before .before .before .before .before .before .before .before .before .args .targets .now) (c .before .before .before .before .before .before .search .last .1 .1 .1 .1 .0) (c .before .before .before .before .before .before .before .before .before .before .before .before .before .before .before .before .before .before .before .before .before .before .before .args .s) (c .exit .given .0 .0) (c .exit .given .0 .1 .0)
+visited : (c : tie.After-exit) → Visited (c .before .before .before .before .before .before .before .before .before .before .before .before .before .before .before .before .before .before .before .before .before .before .before .before .args .starts .now) (c .before .before .before .before .before .before .before .before .before .before .before .before .before .before .before .before .before .before .before .before .before .before .before .before .args .targets .now) (c .before .before .before .before .before .before .search .last .1 .1 .1 .1 .0) (c .before .before .before .before .before .before .before .before .before .before .before .before .before .before .before .before .before .before .before .before .before .before .before .before .args .s) (c .exit .given .0 .0) (c .exit .given .0 .1 .0)
 visited c = rw (c .exit .given .1) at (c .before .before .before .before .before .before .search .ensures .searched)
 
 count-parents-requires : tie.Need-count-parents-requires
 count-parents-requires c κs = let ready = c .before .before .before .before .before .before .pre in (rw (ready .parents-long) (ready .well-formed .targets-below), ready .well-formed .most-edges)
 
-count-parents-requires-2 : tie.Need-count-parents-requires-2
-count-parents-requires-2 c κs = let ready = c .before .before .before .before .before .before .before .before .before .before .pre in (rw (ready .left-long) (ready .well-formed .targets-below), ready .well-formed .most-edges)
+copy-requires : tie.Need-copy-requires
+copy-requires c κs = search needs
 
 search-requires : tie.Need-search-requires
-search-requires c κs = let ready = c .before .before .before .before .before .before .before .before .before .before .before .before .before .before .before .before .pre in
+search-requires c κs = let ready = c .before .before .before .before .before .before .before .before .before .before .before .before .before .before .before .before .before .pre in
     record {
       well-formed = ready .well-formed;
       vertex = ready .entrance;
-      counted = rw (ready .parents-long) at (c .before .before .before .before .before .before .before .before .before .count-parents .ensures);
-      whole =
-          parents-same (rw (ready .left-long) at (c .before .before .before .before .before .count-parents2 .ensures)) (rw (ready .parents-long) at (c .before .before .before .before .before .before .before .before .before .count-parents .ensures));
+      counted = rw (ready .parents-long) at (c .before .before .before .before .before .before .before .before .before .before .count-parents .ensures);
+      whole = c .before .before .before .before .before .copy .ensures;
       room = omega (arith, ready .order-long);
     }
 
@@ -51,8 +49,8 @@ same-length-3 c = search needs
 returns : tie.Need-returns
 returns c = (
   c .no .ensures .0,
-  judged-no (c .before .before .before .before .before .before .before .before .before .before .before .before .before .before .before .before .before .before .before .before .before .before .before .before .args .starts .now) (c .before .before .before .before .before .before .before .before .before .before .before .before .before .before .before .before .before .before .before .before .before .before .before .before .args .targets .now) (c .before .before .before .before .before .before .before .before .before .before .before .before .before .before .before .before .before .before .before .before .before .before .before .before .args .s) (c .before .before .before .before .before .before .before .before .before .before .before .before .before .before .before .before .before .before .before .before .before .before .before .before .args .t) (c .no .result .yes) (c .no .result .size) (c .no .ensures .1, c .no .ensures .2)
-      ((rw (c .before .enum-told .given .1) at (c .before .before .before .before .before .before .before .search .ensures .searched)) (c .before .before .before .before .before .before .before .before .before .before .before .before .before .before .before .before .before .before .before .before .before .before .before .before .args .t)),
+  judged-no (c .before .before .before .before .before .before .before .before .before .before .before .before .before .before .before .before .before .before .before .before .before .before .before .before .before .args .starts .now) (c .before .before .before .before .before .before .before .before .before .before .before .before .before .before .before .before .before .before .before .before .before .before .before .before .before .args .targets .now) (c .before .before .before .before .before .before .before .before .before .before .before .before .before .before .before .before .before .before .before .before .before .before .before .before .before .args .s) (c .before .before .before .before .before .before .before .before .before .before .before .before .before .before .before .before .before .before .before .before .before .before .before .before .before .args .t) (c .no .result .yes) (c .no .result .size) (c .no .ensures .1, c .no .ensures .2)
+      ((rw (c .before .enum-told .given .1) at (c .before .before .before .before .before .before .before .search .ensures .searched)) (c .before .before .before .before .before .before .before .before .before .before .before .before .before .before .before .before .before .before .before .before .before .before .before .before .before .args .t)),
 )
 
 no-requires-2 : tie.Need-no-requires-2
@@ -70,7 +68,7 @@ same-length-6 c = search needs
 returns-2 : tie.Need-returns-2
 returns-2 c = (
   c .no2 .ensures .0,
-  judged-no (c .before .before .before .before .before .before .before .before .before .before .before .before .before .before .before .before .before .before .before .before .before .before .before .before .before .before .args .starts .now) (c .before .before .before .before .before .before .before .before .before .before .before .before .before .before .before .before .before .before .before .before .before .before .before .before .before .before .args .targets .now) (c .before .before .before .before .before .before .before .before .before .before .before .before .before .before .before .before .before .before .before .before .before .before .before .before .before .before .args .s) (c .before .before .before .before .before .before .before .before .before .before .before .before .before .before .before .before .before .before .before .before .before .before .before .before .before .before .args .t) (c .no2 .result .yes) (c .no2 .result .size) (c .no2 .ensures .1, c .no2 .ensures .2)
+  judged-no (c .before .before .before .before .before .before .before .before .before .before .before .before .before .before .before .before .before .before .before .before .before .before .before .before .before .before .before .args .starts .now) (c .before .before .before .before .before .before .before .before .before .before .before .before .before .before .before .before .before .before .before .before .before .before .before .before .before .before .before .args .targets .now) (c .before .before .before .before .before .before .before .before .before .before .before .before .before .before .before .before .before .before .before .before .before .before .before .before .before .before .before .args .s) (c .before .before .before .before .before .before .before .before .before .before .before .before .before .before .before .before .before .before .before .before .before .before .before .before .before .before .before .args .t) (c .no2 .result .yes) (c .no2 .result .size) (c .no2 .ensures .1, c .no2 .ensures .2)
       (λ b. c .before .if1 .taken (exit-unique (visited (c .before .before .before) .superbubble) b)),
 )
 
@@ -81,8 +79,8 @@ slice-aggregate-count-vertices : tie.Need-slice-aggregate-count-vertices
 slice-aggregate-count-vertices c = sym (length-take-le (c .before .before .before .exit .given .0 .1 .0) (c .before .before .before .before .before .before .before .before .before .search .last .1 .1 .1 .1 .0) (visited (c .before .before .before) .room))
 
 count-vertices-requires : tie.Need-count-vertices-requires
-count-vertices-requires c κs = let ready = c .before .before .before .before .before .before .before .before .before .before .before .before .before .before .before .before .before .before .before .before .before .before .before .before .before .before .pre in (
-  visited-below (c .before .before .before .before .before .before .before .before .before .before .before .before .before .before .before .before .before .before .before .before .before .before .before .before .before .before .args .starts .now) (c .before .before .before .before .before .before .before .before .before .before .before .before .before .before .before .before .before .before .before .before .before .before .before .before .before .before .args .targets .now) (c .before .before .before .before .before .before .before .before .before .search .last .1 .1 .1 .1 .0) (c .before .before .before .before .before .before .before .before .before .before .before .before .before .before .before .before .before .before .before .before .before .before .before .before .before .before .args .s) (c .before .before .before .exit .given .0 .0) (c .before .before .before .exit .given .0 .1 .0) (ready .well-formed) (ready .entrance) (visited (c .before .before .before)),
+count-vertices-requires c κs = let ready = c .before .before .before .before .before .before .before .before .before .before .before .before .before .before .before .before .before .before .before .before .before .before .before .before .before .before .before .pre in (
+  visited-below (c .before .before .before .before .before .before .before .before .before .before .before .before .before .before .before .before .before .before .before .before .before .before .before .before .before .before .before .args .starts .now) (c .before .before .before .before .before .before .before .before .before .before .before .before .before .before .before .before .before .before .before .before .before .before .before .before .before .before .before .args .targets .now) (c .before .before .before .before .before .before .before .before .before .search .last .1 .1 .1 .1 .0) (c .before .before .before .before .before .before .before .before .before .before .before .before .before .before .before .before .before .before .before .before .before .before .before .before .before .before .before .args .s) (c .before .before .before .exit .given .0 .0) (c .before .before .before .exit .given .0 .1 .0) (ready .well-formed) (ready .entrance) (visited (c .before .before .before)),
   omega (arith, c .before .if1 .left, ready .exit, ready .well-formed .most-vertices),
 )
 
@@ -98,7 +96,7 @@ same-length-9 c = search needs
 returns-3 : tie.Need-returns-3
 returns-3 c = (
   refl,
-  judged-yes (c .before .before .before .before .before .before .before .before .before .before .before .before .before .before .before .before .before .before .before .before .before .before .before .before .before .before .before .args .starts .now) (c .before .before .before .before .before .before .before .before .before .before .before .before .before .before .before .before .before .before .before .before .before .before .before .before .before .before .before .args .targets .now) (c .before .before .before .before .before .before .before .before .before .before .before .before .before .before .before .before .before .before .before .before .before .before .before .before .before .before .before .args .s) (c .before .before .before .before .before .before .before .before .before .before .before .before .before .before .before .before .before .before .before .before .before .before .before .before .before .before .before .args .t) (c .before .before .before .before .before .before .before .before .before .before .search .last .1 .1 .1 .1 .0) (c .before .before .before .before .exit .given .0 .1 .0) (c .count-vertices .result)
+  judged-yes (c .before .before .before .before .before .before .before .before .before .before .before .before .before .before .before .before .before .before .before .before .before .before .before .before .before .before .before .before .args .starts .now) (c .before .before .before .before .before .before .before .before .before .before .before .before .before .before .before .before .before .before .before .before .before .before .before .before .before .before .before .before .args .targets .now) (c .before .before .before .before .before .before .before .before .before .before .before .before .before .before .before .before .before .before .before .before .before .before .before .before .before .before .before .before .args .s) (c .before .before .before .before .before .before .before .before .before .before .before .before .before .before .before .before .before .before .before .before .before .before .before .before .before .before .before .before .args .t) (c .before .before .before .before .before .before .before .before .before .before .search .last .1 .1 .1 .1 .0) (c .before .before .before .before .exit .given .0 .1 .0) (c .count-vertices .result)
       (rw (c .before .before .if1 .left) at (visited (c .before .before .before .before))) (rw (c .before .before .if1 .left) at (c .count-vertices .ensures)),
 )
 
@@ -107,7 +105,7 @@ judge-with-spec =
     tie.close
     (tie.spec
     count-parents-requires
-    count-parents-requires-2
+    copy-requires
     search-requires
     enum-known-exit
     enum-told

@@ -17,31 +17,31 @@ abbrev μ-loop : tie.MeasureT-loop
 count-parents-requires : tie.Need-count-parents-requires Inv-loop μ-loop
 count-parents-requires c κs = let ready = c .before .before .before .before .before .before .before .pre in (rw (ready .parents-long) (ready .well-formed .targets-below), ready .well-formed .most-edges)
 
-count-parents-requires-2 : tie.Need-count-parents-requires-2 Inv-loop μ-loop
-count-parents-requires-2 c κs = let ready = c .before .before .before .before .before .before .before .before .before .before .before .pre in (rw (ready .left-long) (ready .well-formed .targets-below), ready .well-formed .most-edges)
+copy-requires : tie.Need-copy-requires Inv-loop μ-loop
+copy-requires c κs = search needs
 
 sub-n : tie.Need-sub-n Inv-loop μ-loop
 sub-n c = search needs
 
 loop-holds : tie.Need-loop-holds Inv-loop μ-loop
-loop-holds c = let ready = c .before .before .before .before .before .before .before .before .before .before .before .before .before .before .pre in (
-  scan-start (c .before .before .before .before .before .before .before .before .before .before .before .before .before .before .args .starts .now) (c .before .before .before .before .before .before .before .before .before .before .before .before .before .before .args .targets .now) (c .before .before .before .before .before .before .count-parents .last .1 .0) (c .before .before .count-parents2 .last .1 .0) (c .before .before .before .before .before .before .before .before .before .before .before .before .before .before .args .order .now) (c .before .before .before .before .before .before .before .before .before .before .before .before .before .before .args .out .now) (length (c .before .before .before .before .before .before .before .before .before .before .before .before .before .before .args .starts .now) - 1) (ready .well-formed) refl
-      (rw (ready .parents-long) at (c .before .before .before .before .before .before .count-parents .ensures)) (rw (ready .left-long) at (c .before .before .count-parents2 .ensures)) (omega (arith, ready)) (omega (arith, ready)),
+loop-holds c = let ready = c .before .before .before .before .before .before .before .before .before .before .before .before .before .before .before .pre in (
+  scan-start (c .before .before .before .before .before .before .before .before .before .before .before .before .before .before .before .args .starts .now) (c .before .before .before .before .before .before .before .before .before .before .before .before .before .before .before .args .targets .now) (c .before .before .before .before .before .before .before .count-parents .last .1 .0) (c .before .before .copy .last .1 .0) (c .before .before .before .before .before .before .before .before .before .before .before .before .before .before .before .args .order .now) (c .before .before .before .before .before .before .before .before .before .before .before .before .before .before .before .args .out .now) (length (c .before .before .before .before .before .before .before .before .before .before .before .before .before .before .before .args .starts .now) - 1) (ready .well-formed) refl
+      (rw (ready .parents-long) at (c .before .before .before .before .before .before .before .count-parents .ensures)) (c .before .before .copy .ensures) (omega (arith, ready)) (omega (arith, ready)),
   refl,
   refl,
 )
 
 cast-search : tie.Need-cast-search Inv-loop μ-loop
-cast-search c = omega (arith, c .before .before .before .before .before .before .before .before .before .before .before .before .before .before .before .before .before .before .before .pre)
+cast-search c = omega (arith, c .before .before .before .before .before .before .before .before .before .before .before .before .before .before .before .before .before .before .before .before .pre)
 
 search-requires : tie.Need-search-requires Inv-loop μ-loop
-search-requires c κs = scan-searchable (c .before .before .before .before .before .before .before .before .before .before .before .before .before .before .before .before .before .before .before .args .starts .now) (c .before .before .before .before .before .before .before .before .before .before .before .before .before .before .before .before .before .before .before .args .targets .now) (c .before .before .before .before .before .before .before .before .before .before .before .count-parents .last .1 .0) (c .before .before .before .before .loop .left) (c .before .before .before .before .loop .order) (c .before .before .before .before .before .before .before .before .before .before .before .before .before .before .before .before .before .before .before .args .out .now) (c .before .before .before .before .loop .out) (length (c .before .before .before .before .before .before .before .before .before .before .before .before .before .before .before .before .before .before .before .args .starts .now) - 1) (c .before .before .before .before .loop .found) (c .before .before .before .before .loop .s) (c .before .before .before .before .loop .inv .0) (c .before .before .before .loop-test .taken)
+search-requires c κs = scan-searchable (c .before .before .before .before .before .before .before .before .before .before .before .before .before .before .before .before .before .before .before .before .args .starts .now) (c .before .before .before .before .before .before .before .before .before .before .before .before .before .before .before .before .before .before .before .before .args .targets .now) (c .before .before .before .before .before .before .before .before .before .before .before .before .count-parents .last .1 .0) (c .before .before .before .before .loop .left) (c .before .before .before .before .loop .order) (c .before .before .before .before .before .before .before .before .before .before .before .before .before .before .before .before .before .before .before .before .args .out .now) (c .before .before .before .before .loop .out) (length (c .before .before .before .before .before .before .before .before .before .before .before .before .before .before .before .before .before .before .before .before .args .starts .now) - 1) (c .before .before .before .before .loop .found) (c .before .before .before .before .loop .s) (c .before .before .before .before .loop .inv .0) (c .before .before .before .loop-test .taken)
 
 cast-write-line : tie.Need-cast-write-line Inv-loop μ-loop
-cast-write-line c = omega (arith, c .before .before .before .before .before .before .before .before .before .before .before .before .before .before .before .before .before .before .before .before .before .before .before .before .before .pre)
+cast-write-line c = omega (arith, c .before .before .before .before .before .before .before .before .before .before .before .before .before .before .before .before .before .before .before .before .before .before .before .before .before .before .pre)
 
 write-line-requires : tie.Need-write-line-requires Inv-loop μ-loop
-write-line-requires c κs = omega (arith, scan-length (c .before .before .before .before .before .before .before .before .before .before .before .before .before .before .before .before .before .before .before .before .before .before .before .before .before .args .starts .now) (c .before .before .before .before .before .before .before .before .before .before .before .before .before .before .before .before .before .before .before .before .before .before .before .before .before .args .targets .now) (c .before .before .before .before .before .before .before .before .before .before .before .before .before .before .before .before .before .count-parents .last .1 .0) (c .before .before .before .before .before .before .before .before .before .before .loop .left) (c .before .before .before .before .before .before .before .before .before .before .loop .order) (c .before .before .before .before .before .before .before .before .before .before .before .before .before .before .before .before .before .before .before .before .before .before .before .before .before .args .out .now) (c .before .before .before .before .before .before .before .before .before .before .loop .out) (length (c .before .before .before .before .before .before .before .before .before .before .before .before .before .before .before .before .before .before .before .before .before .before .before .before .before .args .starts .now) - 1) (c .before .before .before .before .before .before .before .before .before .before .loop .found) (c .before .before .before .before .before .before .before .before .before .before .loop .s) (c .before .before .before .before .before .before .before .before .before .before .loop .inv .0), c .before .before .before .before .before .before .before .before .before .before .loop .inv .0, c .before .before .before .before .before .before .before .before .before .loop-test .taken)
+write-line-requires c κs = omega (arith, scan-length (c .before .before .before .before .before .before .before .before .before .before .before .before .before .before .before .before .before .before .before .before .before .before .before .before .before .before .args .starts .now) (c .before .before .before .before .before .before .before .before .before .before .before .before .before .before .before .before .before .before .before .before .before .before .before .before .before .before .args .targets .now) (c .before .before .before .before .before .before .before .before .before .before .before .before .before .before .before .before .before .before .count-parents .last .1 .0) (c .before .before .before .before .before .before .before .before .before .before .loop .left) (c .before .before .before .before .before .before .before .before .before .before .loop .order) (c .before .before .before .before .before .before .before .before .before .before .before .before .before .before .before .before .before .before .before .before .before .before .before .before .before .before .args .out .now) (c .before .before .before .before .before .before .before .before .before .before .loop .out) (length (c .before .before .before .before .before .before .before .before .before .before .before .before .before .before .before .before .before .before .before .before .before .before .before .before .before .before .args .starts .now) - 1) (c .before .before .before .before .before .before .before .before .before .before .loop .found) (c .before .before .before .before .before .before .before .before .before .before .loop .s) (c .before .before .before .before .before .before .before .before .before .before .loop .inv .0), c .before .before .before .before .before .before .before .before .before .before .loop .inv .0, c .before .before .before .before .before .before .before .before .before .loop-test .taken)
 
 add-s : tie.Need-add-s Inv-loop μ-loop
 add-s c = search needs
@@ -52,7 +52,7 @@ loop-less c = omega (arith, c .before .before .before .before .before .before .b
 loop-again : tie.Need-loop-again Inv-loop μ-loop
 loop-again c = let found = c .before .before .before .before .before .before .before .before .search in
     let sought = found .ensures in (
-      scan-more (c .before .before .before .before .before .before .before .before .before .before .before .before .before .before .before .before .before .before .before .before .before .before .before .before .before .before .before .before .args .starts .now) (c .before .before .before .before .before .before .before .before .before .before .before .before .before .before .before .before .before .before .before .before .before .before .before .before .before .before .before .before .args .targets .now) (c .before .before .before .before .before .before .before .before .before .before .before .before .before .before .before .before .before .before .before .before .count-parents .last .1 .0) (c .before .before .before .before .before .before .before .before .before .before .before .before .before .loop .left) (c .before .before .before .before .before .before .before .before .before .before .before .before .before .loop .order) (c .before .before .before .before .before .before .before .before .before .before .before .before .before .before .before .before .before .before .before .before .before .before .before .before .before .before .before .before .args .out .now) (c .before .before .before .before .before .before .before .before .before .before .before .before .before .loop .out) (length (c .before .before .before .before .before .before .before .before .before .before .before .before .before .before .before .before .before .before .before .before .before .before .before .before .before .before .before .before .args .starts .now) - 1) (c .before .before .before .before .before .before .before .before .before .before .before .before .before .loop .found) (c .before .before .before .before .before .before .before .before .before .before .before .before .before .loop .s) (c .before .before .before .before .before .before .before .before .before .before .before .before .before .loop .inv .0) (found .last .1 .1 .1 .0) (found .last .1 .1 .1 .1 .0) (c .before .before .write-line .last .0) (found .result) (c .before .before .write-line .result)
+      scan-more (c .before .before .before .before .before .before .before .before .before .before .before .before .before .before .before .before .before .before .before .before .before .before .before .before .before .before .before .before .before .args .starts .now) (c .before .before .before .before .before .before .before .before .before .before .before .before .before .before .before .before .before .before .before .before .before .before .before .before .before .before .before .before .before .args .targets .now) (c .before .before .before .before .before .before .before .before .before .before .before .before .before .before .before .before .before .before .before .before .before .count-parents .last .1 .0) (c .before .before .before .before .before .before .before .before .before .before .before .before .before .loop .left) (c .before .before .before .before .before .before .before .before .before .before .before .before .before .loop .order) (c .before .before .before .before .before .before .before .before .before .before .before .before .before .before .before .before .before .before .before .before .before .before .before .before .before .before .before .before .before .args .out .now) (c .before .before .before .before .before .before .before .before .before .before .before .before .before .loop .out) (length (c .before .before .before .before .before .before .before .before .before .before .before .before .before .before .before .before .before .before .before .before .before .before .before .before .before .before .before .before .before .args .starts .now) - 1) (c .before .before .before .before .before .before .before .before .before .before .before .before .before .loop .found) (c .before .before .before .before .before .before .before .before .before .before .before .before .before .loop .s) (c .before .before .before .before .before .before .before .before .before .before .before .before .before .loop .inv .0) (found .last .1 .1 .1 .0) (found .last .1 .1 .1 .1 .0) (c .before .before .write-line .last .0) (found .result) (c .before .before .write-line .result)
           (c .before .before .before .before .before .before .before .before .before .before .before .before .loop-test .taken) sought (c .before .before .write-line .ensures),
       ap length (sought .whole) ∙ c .before .before .before .before .before .before .before .before .before .before .before .before .before .loop .inv .1,
       sought .room ∙ c .before .before .before .before .before .before .before .before .before .before .before .before .before .loop .inv .2,
@@ -62,16 +62,16 @@ same-length : tie.Need-same-length Inv-loop μ-loop
 same-length c = search needs
 
 same-length-2 : tie.Need-same-length-2 Inv-loop μ-loop
-same-length-2 c = c .before .loop .inv .1 ∙ c .before .before .before .before .count-parents2 .kept .1 .0
+same-length-2 c = c .before .loop .inv .1 ∙ c .before .before .before .before .copy .kept .1 .0
 
 same-length-3 : tie.Need-same-length-3 Inv-loop μ-loop
 same-length-3 c = c .before .loop .inv .2
 
 same-length-4 : tie.Need-same-length-4 Inv-loop μ-loop
-same-length-4 c = scan-length (c .before .before .before .before .before .before .before .before .before .before .before .before .before .before .before .before .args .starts .now) (c .before .before .before .before .before .before .before .before .before .before .before .before .before .before .before .before .args .targets .now) (c .before .before .before .before .before .before .before .before .count-parents .last .1 .0) (c .before .loop .left) (c .before .loop .order) (c .before .before .before .before .before .before .before .before .before .before .before .before .before .before .before .before .args .out .now) (c .before .loop .out) (length (c .before .before .before .before .before .before .before .before .before .before .before .before .before .before .before .before .args .starts .now) - 1) (c .before .loop .found) (c .before .loop .s) (c .before .loop .inv .0)
+same-length-4 c = scan-length (c .before .before .before .before .before .before .before .before .before .before .before .before .before .before .before .before .before .args .starts .now) (c .before .before .before .before .before .before .before .before .before .before .before .before .before .before .before .before .before .args .targets .now) (c .before .before .before .before .before .before .before .before .before .count-parents .last .1 .0) (c .before .loop .left) (c .before .loop .order) (c .before .before .before .before .before .before .before .before .before .before .before .before .before .before .before .before .before .args .out .now) (c .before .loop .out) (length (c .before .before .before .before .before .before .before .before .before .before .before .before .before .before .before .before .before .args .starts .now) - 1) (c .before .loop .found) (c .before .loop .s) (c .before .loop .inv .0)
 
 returns : tie.Need-returns Inv-loop μ-loop
-returns c = scan-done (c .before .before .before .before .before .before .before .before .before .before .before .before .before .before .before .before .args .starts .now) (c .before .before .before .before .before .before .before .before .before .before .before .before .before .before .before .before .args .targets .now) (c .before .before .before .before .before .before .before .before .count-parents .last .1 .0) (c .before .loop .left) (c .before .loop .order) (c .before .before .before .before .before .before .before .before .before .before .before .before .before .before .before .before .args .out .now) (c .before .loop .out) (length (c .before .before .before .before .before .before .before .before .before .before .before .before .before .before .before .before .args .starts .now) - 1) (c .before .loop .found) (c .before .loop .s) (c .before .loop .inv .0) (c .loop-test .left)
+returns c = scan-done (c .before .before .before .before .before .before .before .before .before .before .before .before .before .before .before .before .before .args .starts .now) (c .before .before .before .before .before .before .before .before .before .before .before .before .before .before .before .before .before .args .targets .now) (c .before .before .before .before .before .before .before .before .before .count-parents .last .1 .0) (c .before .loop .left) (c .before .loop .order) (c .before .before .before .before .before .before .before .before .before .before .before .before .before .before .before .before .before .args .out .now) (c .before .loop .out) (length (c .before .before .before .before .before .before .before .before .before .before .before .before .before .before .before .before .before .args .starts .now) - 1) (c .before .loop .found) (c .before .loop .s) (c .before .loop .inv .0) (c .loop-test .left)
 
 pub list-with-spec : {M : Type 1} → statement M
 list-with-spec =
@@ -80,7 +80,7 @@ list-with-spec =
     Inv-loop
     μ-loop
     count-parents-requires
-    count-parents-requires-2
+    copy-requires
     sub-n
     loop-holds
     cast-search
