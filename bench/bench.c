@@ -1,6 +1,7 @@
 // Times the library's list, judge and fold against the same in plain C, on tables made here, and looks how deep the
 // library's calls reach into the stack. The two sides take turns, the fastest of many rounds counts, and each answer is
-// compared: a difference ends the run.
+// compared: a difference ends the run. With the argument `answers` nothing is timed: it compares the answers, looks
+// whether the stack stays below 256 KB, and prints the count.
 #include "plain.h"
 
 struct timespec {
@@ -239,8 +240,32 @@ static struct times measure(void (*our)(void), void (*their)(void), double budge
 }
 
 static double worst;
+static _Bool timing = 1;
+static int passed, failed;
+
+static void count(_Bool right, const char *operation, const char *what) {
+    if (right) {
+        passed++;
+    } else {
+        failed++;
+        printf("%s, %s of %lu: %s\n", operation, table.name, table.n, what);
+    }
+}
+
+// Whether both sides give the same answers.
+static void same(const char *operation, void (*our)(void), void (*their)(void)) {
+    memset(&ours, 0, sizeof ours);
+    memset(&theirs, 0, sizeof theirs);
+    our();
+    their();
+    count(memcmp(&ours, &theirs, sizeof ours) == 0, operation, "the library and the plain C differ");
+}
 
 static void row(const char *operation, void (*our)(void), void (*their)(void), usize calls) {
+    if (!timing) {
+        same(operation, our, their);
+        return;
+    }
     struct times t = measure(our, their, 2e6);
     double ratio = t.ours / t.theirs;
     if (ratio > worst) worst = ratio;
@@ -249,15 +274,17 @@ static void row(const char *operation, void (*our)(void), void (*their)(void), u
     fflush(0);
 }
 
-
 static void list_and_fold(void) {
     row("list", gohardim_lists, plain_lists, 1);
     gohardim_folds();
     row(ours.number == 9 ? "fold, refused 9" : "fold", gohardim_folds, plain_folds, 1);
 }
 
-static void compare(void) {
+static void heading(void) {
     printf("%-16s %-10s %6s %6s %12s %12s %7s\n", "operation", "table", "n", "m", "verified us", "plain C us", "ratio");
+}
+
+static void compare(void) {
     make_chain(&table, 2048);
     list_and_fold();
     make_cycle(&table, 2048);
@@ -276,7 +303,6 @@ static void compare(void) {
     row("judge, one pair", gohardim_judges_last, plain_judges_last, 1);
     make_comb(&table, 2048);
     row("judge, one pair", gohardim_judges_last, plain_judges_last, 1);
-    printf("largest ratio: %.3f\n", worst);
 }
 
 // ---- growth
@@ -308,7 +334,7 @@ static void growth(void) {
 
 // ---- stack
 
-enum { STACK = 1 << 20, PAINT = 0xa5 };
+enum { STACK = 1 << 20, PAINT = 0xa5, MOST_STACK = 256 * 1024 };
 static u8 stack[STACK] __attribute__((aligned(64)));
 
 // Calls on a painted stack; the distance from its top to the lowest byte that is not paint any more.
@@ -328,11 +354,14 @@ static usize deepest(void (*call)(void)) {
 }
 
 static void depth(const char *operation, void (*our)(void), void (*their)(void)) {
+    if (!timing) {
+        count(deepest(our) < MOST_STACK, operation, "the stack reaches 256 KB");
+        return;
+    }
     printf("%-10s %-10s %6lu %6lu %10lu %10lu\n", operation, table.name, table.n, table.m, deepest(our), deepest(their));
 }
 
 static void depths(void) {
-    printf("\n%-10s %-10s %6s %6s %10s %10s\n", "operation", "table", "n", "m", "verified", "plain C");
     make_chain(&table, 2048);
     depth("list", gohardim_lists, plain_lists);
     depth("judge", gohardim_judges_last, plain_judges_last);
@@ -347,9 +376,19 @@ static void depths(void) {
     depth("fold", gohardim_folds, plain_folds);
 }
 
-int main(void) {
+int main(int arguments, char **argument) {
+    timing = arguments < 2 || strcmp(argument[1], "answers") != 0;
+    if (!timing) {
+        compare();
+        depths();
+        printf("%d passed, %d failed\n", passed, failed);
+        return failed != 0;
+    }
+    heading();
     compare();
+    printf("largest ratio: %.3f\n", worst);
     growth();
+    printf("\n%-10s %-10s %6s %6s %10s %10s\n", "operation", "table", "n", "m", "verified", "plain C");
     depths();
     return 0;
 }

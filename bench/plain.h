@@ -20,3 +20,4 @@ CALLS(plain)
 void *memset(void *to, int byte, usize size);
 void *memcpy(void *restrict to, const void *restrict from, usize size);
 int memcmp(const void *a, const void *b, usize size);
+int strcmp(const char *a, const char *b);
