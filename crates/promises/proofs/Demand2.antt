@@ -7,7 +7,7 @@ use mathlib.Core.Bool.{Bool}
 use mathlib.Core.List.{List, [], _∷_, _++_}
 use native.Mathlib.Omega.{arith}
 use native.Mathlib.Numerals.{add-one}
-use lib.ListN.{length, getD, take, drop}
+use lib.ListN.{length, getD, take, drop, length-map}
 use lib.Seq.{take-at}
 use Rattle.table.specs.Table.{vertices, Edge, WellFormed}
 use Rattle.table.specs.Numbers.{tableDemands}
@@ -17,8 +17,10 @@ use Rattle.table.proofs.RowLaws.{edges-below}
 use Rattle.bubble.specs.Superbubble.{Superbubble}
 use Rattle.bubble.proofs.Number.{entrance-below}
 use Rattle.listing.specs.Listing.{Stands, Listed, listRoom, pairInside, ListDone, Judged, JudgeDone}
-use Rattle.rule.specs.Fold.{Candidate, first-takes-all}
+use Rattle.rule.specs.Fold.{Candidate, Item, first-takes-all}
 use Rattle.rule.specs.Tables.{TableFolded}
+use Rattle.rule.proofs.Ends.{budget-zero}
+use Rattle.rule.proofs.SameTable.{same-lists}
 use Rattle.folding.specs.Folding.{FoldedAt}
 use Rattle.folding.proofs.Demand.{fold-accepts}
 use Rattle.folding.proofs.DoneLaws.{acyclic-folds}
@@ -120,3 +122,12 @@ module _ {starts targets counts starts′ targets′ counts′ : List ℕ} {budg
         at .targets-front ∙ ap (λ (l : List ℕ). l ++ drop (call .edges) (call .lent-targets)) (sym t),
         at .counts-front ∙ ap (λ (l : List ℕ). l ++ drop (vertices starts) (call .lent-counts)) (sym c),
       )
+
+-- Budget 0 gives back the input.
+pub fold-by-zero : {starts targets counts starts′ targets′ counts′ : List ℕ} → Foldable starts targets counts → (call : FoldCall starts targets counts 0 starts′ targets′ counts′)
+    → (starts′ ≡ starts) × (targets′ ≡ targets) × (counts′ ≡ counts) × (call .folded ≡ 0)
+fold-by-zero table call =
+    let folded = fold-by-rule table call in
+    let size = folded .same-size in
+    let (s, t, c) = same-lists (size .well-formed) (table .counted .well-formed) (size .as-many-vertices) (size .as-many-counts) (budget-zero (folded .graph-folded .applied)) in
+    (s, t, c, folded .graph-folded .how-many ∙ sym (length-map (folded .graph-folded .applied .items) (λ (i : Item). i .entrance)) ∙ ap length (folded .graph-folded .applied .first))
