@@ -1,13 +1,11 @@
 -- Laws of filling a slice with one number. Assumes nothing.
 use Prim.Native.Nat.{ℕ, _+_, _<_}
-use mathlib.Core.Path.{_≡_, sym, ap, _∙_}
-use mathlib.Core.List.{List, [], _∷_, _++_, append-nil}
+use mathlib.Core.Path.{_≡_, _∙_}
+use mathlib.Core.List.{List}
 use native.Mathlib.Decide.{ℕ-discrete}
-use native.Mathlib.Numerals.{add-one}
 use native.Mathlib.Omega.{arith}
-use lib.ListN.{length, getD, take, drop, set, length-take, length-append, length-drop}
-use lib.Seq.{getD-set-same, getD-set-other, take-suc, take-all, drop-length, length-take-le}
-use Rattle.table.proofs.FrontLaws.{front-more}
+use lib.ListN.{length, getD, set}
+use lib.Seq.{getD-set-same, getD-set-other}
 
 -- one place more holds n
 pub filled-more : (list : List ℕ) (v n : ℕ) → v < length list → ((j : ℕ) → j < v → getD list j 0 ≡ n) → (j : ℕ) → j < v + 1 → getD (set list v n) j 0 ≡ n

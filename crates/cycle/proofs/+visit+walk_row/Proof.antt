@@ -1,8 +1,8 @@
 -- The proof of the cycle of calls {visit, walk_row}. The measure is the number of unvisited vertices: `visit` lowers it before it walks a row, and a row's walk calls `visit` with no more than it was given, so it is 2u for `visit` and 2u + 1 for `walk_row`. The loop's invariant: each of the first k of the row is done. Assumes nothing.
 use Prim.Native.Nat.{ℕ, _+_, _-_, _*_, _≤_, _<_}
-use mathlib.Core.Path.{refl, _∙_}
+use mathlib.Core.Path.{refl}
 use native.Mathlib.Omega.{arith}
-use lib.ListN.{length, getD, length-set}
+use lib.ListN.{length, getD}
 use borrow.Author.Needs.{needs}
 use Rattle.table.specs.Table.{vertices}
 use Rattle.table.proofs.RowLaws.{row-lies}

@@ -1,6 +1,5 @@
 -- `cycle::has_cycle` meets its contract. The loop's invariant: each of the first v vertices is done, and no vertex is on the path. Assumes nothing.
 use Prim.Native.Nat.{_-_, _≤_, _<_}
-use mathlib.Core.Path.{_∙_}
 use native.Mathlib.Omega.{arith}
 use borrow.Author.Needs.{needs}
 use Rattle.cycle.specs.Visits.{Visited}

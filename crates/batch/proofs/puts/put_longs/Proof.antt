@@ -1,6 +1,5 @@
 -- `batch::puts::put_longs` meets its contract. The loop's invariant: the place lies within the buffer. Assumes nothing.
 use Prim.Native.Nat.{_-_, _≤_}
-use native.Mathlib.Omega.{arith}
 use lib.ListN.{length}
 use borrow.Author.Needs.{needs}
 use Rattle.batch.proofs.puts.put_longs.Statement.{statement}
