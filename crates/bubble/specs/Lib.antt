@@ -1,2 +1,2 @@
--- The definitions of `bubble`.
+-- The definitions of `bubble`. Assumes nothing.
 pub mod Superbubble

@@ -1,4 +1,4 @@
--- The laws of `candidates`, in the order in which one reads them.
+-- The laws of `candidates`, in the order in which one reads them. Assumes nothing.
 pub mod EntranceLaws
 pub mod RuleOutLaws
 pub mod PassLaws

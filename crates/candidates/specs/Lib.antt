@@ -1,3 +1,3 @@
--- The definitions of `candidates`, in the order in which one reads them.
+-- The definitions of `candidates`, in the order in which one reads them. Assumes nothing.
 pub mod Candidates
 pub mod Steps

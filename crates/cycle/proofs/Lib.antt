@@ -1,4 +1,4 @@
--- The laws of `cycle`, in the order in which one reads them.
+-- The laws of `cycle`, in the order in which one reads them. Assumes nothing.
 pub mod SafeLaws
 pub mod CountLaws
 pub mod VisitLaws

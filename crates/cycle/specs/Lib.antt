@@ -1,3 +1,3 @@
--- The definitions of `cycle`, in the order in which one reads them.
+-- The definitions of `cycle`, in the order in which one reads them. Assumes nothing.
 pub mod Cycle
 pub mod Visits

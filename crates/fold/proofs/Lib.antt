@@ -1,2 +1,2 @@
--- The laws of `fold`.
+-- The laws of `fold`. Assumes nothing.
 pub mod Within

@@ -1,4 +1,4 @@
--- The laws of `image`, in the order in which one reads them.
+-- The laws of `image`, in the order in which one reads them. Assumes nothing.
 pub mod ByteLaws
 pub mod HeaderLaws
 pub mod ReadLaws

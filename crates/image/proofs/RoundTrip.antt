@@ -11,20 +11,11 @@ use Rattle.table.specs.Numbers.{countedDemands}
 use Rattle.table.proofs.VerdictLaws.{AllMet, first-met, goes-on, verdict-unique}
 use Rattle.table.proofs.Accepted.{met-counted, counted-meets}
 use Rattle.image.specs.Image.{imageLength, imageOf, startsOf, targetsOf, countsOf}
-use Rattle.image.specs.Contracts.{headerDemands, bodyDemands, readRoom, writeRoom, Read, Written}
+use Rattle.image.specs.Contracts.{headerDemands, bodyDemands, readRoom, writeRoom, Read, Written, TableBack, ImageBack}
 use Rattle.image.proofs.ReadLaws.{read-met}
 use Rattle.image.proofs.WriteLaws.{image-length, write-met}
 use Rattle.image.proofs.TableBack.{vertices-back, edges-back, starts-back, targets-back, counts-back, image-met}
 use Rattle.image.proofs.ImageBack.{starts-long, targets-long, counts-long, table-counted, image-back}
-
--- what was read is the table, with its n and m
-pub record TableBack (starts targets counts starts′ targets′ counts′ : List ℕ) (number n m : ℕ) : Type 0 where
-  pub accepted-again : number ≡ 0
-  pub same-n : n ≡ vertices starts
-  pub same-m : m ≡ length targets
-  pub same-starts : take (n + 1) starts′ ≡ starts
-  pub same-targets : take m targets′ ≡ targets
-  pub same-counts : take n counts′ ≡ counts
 
 -- the front of a slice that holds what was read
 front-of : (k : ℕ) (found xs slice slice′ : List ℕ) → length xs ≡ k → found ≡ xs → slice′ ≡ found ++ drop k slice → take k slice′ ≡ xs
@@ -57,12 +48,6 @@ written-then-read starts targets counts slice image number size w e starts₀ ta
       same-targets = front-of m (targetsOf whole) targets targets₀ targets′ (omega (arith, taken .1)) (targets-back starts targets counts ok) (taken .3);
       same-counts = front-of n (countsOf whole) counts counts₀ counts′ (omega (arith, taken .0, ok .count-each)) (counts-back starts targets counts ok) (taken .4);
     }
-
--- what was written is the image
-pub record ImageBack (image out : List ℕ) (number size : ℕ) : Type 0 where
-  pub accepted-again : number ≡ 0
-  pub same-length : size ≡ length image
-  pub same-bytes : take size out ≡ image
 
 -- an accepted image, read and written, with room, gives the same bytes
 pub read-then-written : (image starts₀ targets₀ counts₀ starts targets counts : List ℕ) (number n m : ℕ) → Below 256 image

@@ -98,3 +98,18 @@ pub record Written (starts targets counts image image′ : List ℕ) (number siz
       number ≡ 0
       → (size ≡ imageLength (vertices starts) (length targets)) × (image′ ≡ imageOf starts targets counts ++ drop size image)
   pub refused : (number ≡ 0 → ⊥) → (size ≡ 0) × (image′ ≡ image)
+
+-- a table written and read is given back: what was read is the table, with its n and m
+pub record TableBack (starts targets counts starts′ targets′ counts′ : List ℕ) (number n m : ℕ) : Type 0 where
+  pub accepted-again : number ≡ 0
+  pub same-n : n ≡ vertices starts
+  pub same-m : m ≡ length targets
+  pub same-starts : take (n + 1) starts′ ≡ starts
+  pub same-targets : take m targets′ ≡ targets
+  pub same-counts : take n counts′ ≡ counts
+
+-- an image read and written is given back: what was written is the image
+pub record ImageBack (image out : List ℕ) (number size : ℕ) : Type 0 where
+  pub accepted-again : number ≡ 0
+  pub same-length : size ≡ length image
+  pub same-bytes : take size out ≡ image

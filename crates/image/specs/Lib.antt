@@ -1,4 +1,4 @@
--- The definitions of `image`, in the order in which one reads them.
+-- The definitions of `image`, in the order in which one reads them. Assumes nothing.
 pub mod Bytes
 pub mod Image
 pub mod Contracts

@@ -36,8 +36,8 @@ module _ {starts targets counts : List ℕ} {s t : ℕ} {best next out best′ n
             ⊎-elim (λ a. inl (followed t (k .item .arm) (List·Memᴰ·tail a))) inr (arm-or-dropped inner)
       ]
 
-module _ {starts targets counts : List ℕ} {s t : ℕ} {best next out best₁ next₁ out₁ best₂ next₂ out₂ : List ℕ}
-    (a : KeptDone starts targets counts s t best next out best₁ next₁ out₁) (b : KeptDone starts targets counts s t best next out best₂ next₂ out₂) where
+module _ {starts targets counts : List ℕ} {s t : ℕ} {best best′ next out best₁ next₁ out₁ best₂ next₂ out₂ : List ℕ}
+    (a : KeptDone starts targets counts s t best next out best₁ next₁ out₁) (b : KeptDone starts targets counts s t best′ next out best₂ next₂ out₂) where
   same-item : a .item ≡ b .item
   same-item = item-unique candidate-laws first-takes-all-laws (a .fits) (b .fits) (a .entrance ∙ sym (b .entrance))
 
@@ -78,7 +78,7 @@ module _ {starts targets counts : List ℕ} {s t : ℕ} {best next out best₁ n
             ]
       ]
 
-  -- what is left in `next` and `out` is settled; `best` is room to work in
+  -- what is left in `next` and `out` is settled, whatever stood in `best`, which is room to work in
   pub kept-coincide : (next₁ ≡ next₂) × (out₁ ≡ out₂)
   kept-coincide = (
     ext-getD 0 next₁ next₂ (a .same-next ∙ sym (b .same-next)) (λ v l. next-same v),

@@ -1,4 +1,4 @@
--- The laws of `kept`, in the order in which one reads them.
+-- The laws of `kept`, in the order in which one reads them. Assumes nothing.
 -- the best child of each visited vertex, the last first
 pub mod OrderLaws
 pub mod CountLaws

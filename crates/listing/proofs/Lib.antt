@@ -1,4 +1,4 @@
--- The laws of `listing`, in the order in which one reads them.
+-- The laws of `listing`, in the order in which one reads them. Assumes nothing.
 pub mod ListLaws
 pub mod ScanLaws
 pub mod CountLaws

@@ -18,7 +18,7 @@ use Rattle.bubble.proofs.Enumerate.{superbubbles, superbubbles-listed}
 use Rattle.bubble.proofs.Pigeonhole.{getD-in}
 use Rattle.vertices.proofs.NumberLaws.{in-list}
 use Rattle.listing.specs.Listing.{Stands, Listed}
-use Rattle.listing.specs.Graphs.{Graph, graphs, flat}
+use Rattle.listing.specs.Graphs.{Graph, graphs, flat, RightlyListed, Each}
 
 -- whether u>v is an edge of a table
 unfoldable edge-test : List ℕ → List ℕ → ℕ → ℕ → Bool
@@ -136,15 +136,6 @@ abbrev all-test : List Graph → Bool
 unfolding graph-test
 all-test [] = true
 all-test (g ∷ rest) = graph-test g && all-test rest
-
--- the list that 01 prints for a graph is that of the graph's superbubbles
-abbrev pub RightlyListed : Graph → Type 0
-RightlyListed g = Listed (Superbubble (Edge (g .starts) (g .targets))) (flat (g .pairs)) (length (g .pairs))
-
--- P of each graph
-abbrev pub Each : (Graph → Type 0) → List Graph → Type 0
-Each P [] = Unit {0}
-Each P (g ∷ rest) = P g × Each P rest
 
 graph-holds : (g : Graph) → T (graph-test g) → RightlyListed g
 unfolding graph-test

@@ -1,6 +1,10 @@
 -- The twelve graphs of document 01 as tables, each with the list that 01 prints for it: entrance and exit, by rising entrance. Assumes nothing.
 use Prim.Native.Nat.{ℕ}
 use mathlib.Core.List.{List, [], _∷_}
+use lib.ListN.{length}
+use Rattle.table.specs.Table.{Edge}
+use Rattle.bubble.specs.Superbubble.{Superbubble}
+use Rattle.listing.specs.Listing.{Listed}
 
 pub record Graph : Type 0 where
   pub starts : List ℕ
@@ -73,3 +77,12 @@ flat (p ∷ ps) = p .0 ∷ p .1 ∷ flat ps
 abbrev pub graphs : List Graph
 graphs =
     graph-A ∷ graph-B ∷ graph-C ∷ graph-D ∷ graph-E ∷ graph-F ∷ graph-G ∷ graph-H ∷ graph-I ∷ graph-J ∷ graph-K ∷ graph-L ∷ []
+
+-- the list that 01 prints for a graph is that of the graph's superbubbles
+abbrev pub RightlyListed : Graph → Type 0
+RightlyListed g = Listed (Superbubble (Edge (g .starts) (g .targets))) (flat (g .pairs)) (length (g .pairs))
+
+-- P of each graph
+abbrev pub Each : (Graph → Type 0) → List Graph → Type 0
+Each P [] = Unit {0}
+Each P (g ∷ rest) = P g × Each P rest

@@ -1,4 +1,4 @@
--- The definitions of `listing`, in the order in which one reads them.
+-- The definitions of `listing`, in the order in which one reads them. Assumes nothing.
 pub mod Listing
 pub mod Steps
 pub mod Graphs

@@ -1,14 +1,17 @@
 -- Two results that a contract allows coincide, for each public function of the library: number, fields and all memory lent.
--- Working room is left open, and no result depends on it: the order of a search, the colours of the cycle test, the best sums of a kept path. Assumes nothing.
+-- Working room is left open: the order of a search, the colours of the cycle test, the best sums of a kept path. No result depends on what stood in it: two calls with different
+-- working room coincide. Assumes nothing.
 use Prim.Native.Nat.{ℕ, _<_, _≤_}
 use mathlib.Core.Path.{_≡_, sym, _∙_}
 use mathlib.Core.Bool.{Bool}
 use mathlib.Core.List.{List}
 use lib.ListN.{getD}
 use Rattle.table.specs.Verdict.{Verdict, Says}
-use Rattle.table.specs.Table.{In, Edge, Rises, countSum}
+use Rattle.table.specs.Table.{row, In, Edge, Rises, countSum}
 use Rattle.table.specs.Numbers.{tableDemands, countedDemands}
 use Rattle.table.proofs.VerdictLaws.{says-unique, verdict-unique}
+use Rattle.image.specs.Bytes.{over}
+use Rattle.image.specs.Image.{imageLength, headerOf}
 use Rattle.image.specs.Contracts.{Read, Written}
 use Rattle.image.proofs.Determined.{read-determined, write-determined}
 use Rattle.vertices.specs.Vertices.{Added, Size}
@@ -30,10 +33,6 @@ use Rattle.staying.proofs.Determined.{write-table-determined}
 use Rattle.folding.specs.Folding.{FoldDone}
 use Rattle.folding.proofs.Demand.{fold-determined}
 
--- where a contract is an equation, as that of `table::row`, `Header::length` and `Header::put`
-pub equation-coincides : {A : Type 0} {r₁ r₂ value : A} → r₁ ≡ value → r₂ ≡ value → r₁ ≡ r₂
-equation-coincides a b = a ∙ sym b
-
 -- `table::check`
 pub check-coincides : (starts targets : List ℕ) (r₁ r₂ : ℕ) → Verdict (tableDemands starts targets) r₁ → Verdict (tableDemands starts targets) r₂ → r₁ ≡ r₂
 check-coincides starts targets = verdict-unique (tableDemands starts targets)
@@ -46,13 +45,17 @@ check-counted-coincides starts targets counts = verdict-unique (countedDemands s
 pub sum-fits-coincides : (counts : List ℕ) (r₁ r₂ : Bool) → Says r₁ (countSum counts ≤ 1099511627775) → Says r₂ (countSum counts ≤ 1099511627775) → r₁ ≡ r₂
 sum-fits-coincides counts = says-unique (countSum counts ≤ 1099511627775)
 
+-- `table::row`
+pub row-coincides : (starts targets : List ℕ) (v : ℕ) (row₁ row₂ : List ℕ) → row₁ ≡ row starts targets v → row₂ ≡ row starts targets v → row₁ ≡ row₂
+row-coincides starts targets v row₁ row₂ a b = a ∙ sym b
+
 -- `table::rises`
-pub rises-coincides : (row : List ℕ) (r₁ r₂ : Bool) → Says r₁ (Rises row) → Says r₂ (Rises row) → r₁ ≡ r₂
-rises-coincides row = says-unique (Rises row)
+pub rises-coincides : (list : List ℕ) (r₁ r₂ : Bool) → Says r₁ (Rises list) → Says r₂ (Rises list) → r₁ ≡ r₂
+rises-coincides list = says-unique (Rises list)
 
 -- `table::holds`
-pub holds-coincides : (row : List ℕ) (v : ℕ) (r₁ r₂ : Bool) → Says r₁ (In v row) → Says r₂ (In v row) → r₁ ≡ r₂
-holds-coincides row v = says-unique (In v row)
+pub holds-coincides : (list : List ℕ) (v : ℕ) (r₁ r₂ : Bool) → Says r₁ (In v list) → Says r₂ (In v list) → r₁ ≡ r₂
+holds-coincides list v = says-unique (In v list)
 
 -- `image::read`
 pub read-coincides : (image starts targets counts starts₁ targets₁ counts₁ starts₂ targets₂ counts₂ : List ℕ) (number₁ n₁ m₁ number₂ n₂ m₂ : ℕ)
@@ -64,6 +67,14 @@ read-coincides = read-determined
 pub write-coincides : (starts targets counts image image₁ image₂ : List ℕ) (number₁ size₁ number₂ size₂ : ℕ) → Written starts targets counts image image₁ number₁ size₁
     → Written starts targets counts image image₂ number₂ size₂ → (number₁ ≡ number₂) × (size₁ ≡ size₂) × (image₁ ≡ image₂)
 write-coincides = write-determined
+
+-- `image::Header::length`
+pub length-coincides : (n m r₁ r₂ : ℕ) → r₁ ≡ imageLength n m → r₂ ≡ imageLength n m → r₁ ≡ r₂
+length-coincides n m r₁ r₂ a b = a ∙ sym b
+
+-- `image::Header::put`
+pub header-coincides : (n m : ℕ) (out out₁ out₂ : List ℕ) → out₁ ≡ over out 0 (headerOf n m) → out₂ ≡ over out 0 (headerOf n m) → out₁ ≡ out₂
+header-coincides n m out out₁ out₂ a b = a ∙ sym b
 
 -- `vertices::put`
 pub put-coincides : {words words₁ words₂ : List ℕ} {v : ℕ} → Added words words₁ v → Added words words₂ v → words₁ ≡ words₂
@@ -77,14 +88,18 @@ size-coincides a b = a .sum ∙ sym (b .sum)
 pub clear-coincides : {counts counts₁ counts₂ : List ℕ} → Zeros counts counts₁ → Zeros counts counts₂ → counts₁ ≡ counts₂
 clear-coincides = zeros-same
 
+-- `search::copy`
+pub copy-coincides : (counts out₁ out₂ : List ℕ) → out₁ ≡ counts → out₂ ≡ counts → out₁ ≡ out₂
+copy-coincides counts out₁ out₂ a b = a ∙ sym b
+
 -- `search::count_parents`
 pub parents-coincide : {n : ℕ} {targets parents₁ parents₂ : List ℕ} → Parents n targets parents₁ → Parents n targets parents₂ → parents₁ ≡ parents₂
 parents-coincide = parents-same
 
--- `search::search`: the exit and the parents' counts. Of the order the vertices that it shows,
-pub search-coincides : (starts targets left order left₁ order₁ left₂ order₂ : List ℕ) (s : ℕ) (exit₁ exit₂ : Exit) → Sought starts targets left order left₁ order₁ s exit₁
-    → Sought starts targets left order left₂ order₂ s exit₂ → (exit₁ ≡ exit₂) × (left₁ ≡ left₂)
-search-coincides starts targets left order left₁ order₁ left₂ order₂ s exit₁ exit₂ a b =
+-- `search::search`, whatever stood in the order: the exit and the parents' counts. Of the order the vertices that it shows,
+pub search-coincides : (starts targets left order order′ left₁ order₁ left₂ order₂ : List ℕ) (s : ℕ) (exit₁ exit₂ : Exit) → Sought starts targets left order left₁ order₁ s exit₁
+    → Sought starts targets left order′ left₂ order₂ s exit₂ → (exit₁ ≡ exit₂) × (left₁ ≡ left₂)
+search-coincides starts targets left order order′ left₁ order₁ left₂ order₂ s exit₁ exit₂ a b =
     (answer-unique starts targets order₁ order₂ s exit₁ exit₂ (a .searched) (b .searched), a .whole ∙ sym (b .whole))
 
 -- which one order has where the other has them
@@ -111,9 +126,9 @@ pub find-coincides : {starts targets parents₁ left₁ order₁ exits₁ parent
     → Found starts targets parents₂ left₂ order₂ exits₂ found₂ → (parents₁ ≡ parents₂) × (left₁ ≡ left₂) × (exits₁ ≡ exits₂) × (found₁ ≡ found₂)
 find-coincides = found-determined
 
--- `kept::keep`: all but the best sums
-pub keep-coincides : {starts targets counts best next out best₁ next₁ out₁ best₂ next₂ out₂ : List ℕ} {s t : ℕ} → KeptDone starts targets counts s t best next out best₁ next₁ out₁
-    → KeptDone starts targets counts s t best next out best₂ next₂ out₂ → (next₁ ≡ next₂) × (out₁ ≡ out₂)
+-- `kept::keep`, whatever stood in the best sums: all but these
+pub keep-coincides : {starts targets counts best best′ next out best₁ next₁ out₁ best₂ next₂ out₂ : List ℕ} {s t : ℕ} → KeptDone starts targets counts s t best next out best₁ next₁ out₁
+    → KeptDone starts targets counts s t best′ next out best₂ next₂ out₂ → (next₁ ≡ next₂) × (out₁ ≡ out₂)
 keep-coincides = kept-coincide
 
 -- `staying::write_table`

@@ -1,21 +1,24 @@
 -- Demand 1: a table or image of any content gets an answer; bad ones are refused by number, on the tool's own checking; and a refusal changes no buffer. Assumes nothing.
 use Prim.Native.Nat.{ℕ, _+_, _*_}
-use mathlib.Core.Path.{_≡_, sym}
+use mathlib.Core.Path.{_≡_, refl, sym, _∙_}
+use mathlib.Core.Logic.{inl, inr}
 use mathlib.Core.Bool.{Bool, false}
 use mathlib.Core.List.{List, [], _∷_, _++_}
 use native.Mathlib.Decide.{decLe, decLt}
 use lib.ListN.{length}
-use Rattle.table.specs.Verdict.{Verdict}
-use Rattle.table.specs.Table.{vertices, Below, WellFormed, Counted}
+use Rattle.table.specs.Verdict.{Demand, Verdict}
+use Rattle.table.specs.Table.{vertices, Edge, Below, WellFormed, Counted}
 use Rattle.table.specs.Numbers.{tableDemands, countDemands, countedDemands}
-use Rattle.table.proofs.VerdictLaws.{AllMet, first-met}
-use Rattle.table.proofs.Accepted.{well-formed, counted, met-counted}
-use Rattle.image.specs.Image.{imageLength, imageOf, verticesOf, edgesOf, startsOf, targetsOf, countsOf}
+use Rattle.table.proofs.VerdictLaws.{AllMet, first-met, goes-on, stops, verdict-unique}
+use Rattle.table.proofs.Accepted.{well-formed, counted, met-counted, counted-meets}
+use Rattle.image.specs.Image.{imageLength, verticesOf, edgesOf, startsOf, targetsOf, countsOf}
 use Rattle.image.specs.Contracts.{headerDemands, bodyDemands, readRoom, writeRoom, Read, Written}
 use Rattle.image.proofs.ReadLaws.{read-met}
 use Rattle.image.proofs.ImageBack.{table-counted, image-back}
 use Rattle.listing.specs.Listing.{listRoom, pairInside, ListDone, JudgeDone}
+use Rattle.cycle.specs.Cycle.{Cyclic}
 use Rattle.folding.specs.Folding.{foldRoom, noCycle, FoldDone}
+use Rattle.promises.specs.Images.{GoodImage}
 use Rattle.promises.proofs.Decided.{DecidedInTurn, gives-number, decided-then, both, table-decided, counts-decided, header-decided, body-decided, room-decided, acyclic-decided}
 
 -- A table of any content gets an answer: the check has a number for it, without counts and with them,
@@ -66,20 +69,49 @@ read-answers image starts targets counts =
     (λ _. decided-then (bodyDemands image) (readRoom image starts targets counts ∷ []) (body-decided image)
     (λ _. (room-decided (verticesOf image + 1) (edgesOf image) (verticesOf image) (length starts) (length targets) (length counts), λ _. tt))))
 
--- Bad ones are refused by number: a table that is not well-formed, without its counts and with them,
+-- Bad ones are refused by number: a table that is not well-formed, without its counts and with them, by the checks
 pub bad-table-refused : (starts targets : List ℕ) (number : ℕ) → (WellFormed starts targets → ⊥) → Verdict (tableDemands starts targets) number → number ≡ 0 → ⊥
 bad-table-refused starts targets number bad v e = bad (well-formed starts targets (rw e at v))
 
 pub bad-counts-refused : (starts targets counts : List ℕ) (number : ℕ) → (Counted starts targets counts → ⊥) → Verdict (countedDemands starts targets counts) number → number ≡ 0 → ⊥
 bad-counts-refused starts targets counts number bad v e = bad (counted starts targets counts (rw e at v))
 
--- these bytes are the image of a well-formed table
-pub record GoodImage (image : List ℕ) : Type 0 where
-  pub starts : List ℕ
-  pub targets : List ℕ
-  pub counts : List ℕ
-  pub table : Counted starts targets counts
-  pub bytes : image ≡ imageOf starts targets counts
+-- a demand that is not met is not passed: where the first demands refuse, so do all
+still-refused : (first rest : List Demand) (number : ℕ) → ((r : ℕ) → Verdict first r → r ≡ 0 → ⊥) → ((r : ℕ) × Verdict first r) → Verdict (first ++ rest) number → number ≡ 0 → ⊥
+still-refused first rest number bad (r, v) w e = bad r v (sym (verdict-unique (first ++ rest) number r w (stops first rest r (bad r v) v)) ∙ e)
+
+-- and by list,
+pub list-refuses-bad : (starts targets out out′ : List ℕ) (number found : ℕ) → (WellFormed starts targets → ⊥) → ListDone starts targets out out′ number found → number ≡ 0 → ⊥
+list-refuses-bad starts targets out out′ number found bad done =
+    still-refused (tableDemands starts targets) (listRoom starts out ∷ []) number (λ r. bad-table-refused starts targets r bad) (check-answers starts targets) (done .verdict)
+
+-- judge,
+pub judge-refuses-bad : (starts targets : List ℕ) (s t number size : ℕ) (answer : Bool) → (WellFormed starts targets → ⊥) → JudgeDone starts targets s t number answer size → number ≡ 0 → ⊥
+judge-refuses-bad starts targets s t number size answer bad done =
+    still-refused (tableDemands starts targets) (pairInside starts s t ∷ []) number (λ r. bad-table-refused starts targets r bad) (check-answers starts targets) (done .verdict)
+
+-- fold,
+pub fold-refuses-bad : (starts targets counts : List ℕ) (budget : ℕ) (out-starts out-targets out-counts a b c : List ℕ) (number folded left edges : ℕ) → (Counted starts targets counts → ⊥)
+    → FoldDone starts targets counts budget out-starts out-targets out-counts a b c number folded left edges → number ≡ 0 → ⊥
+fold-refuses-bad starts targets counts budget out-starts out-targets out-counts a b c number folded left edges bad done =
+    still-refused (countedDemands starts targets counts) (foldRoom starts targets out-starts out-targets out-counts ∷ noCycle starts targets ∷ []) number
+    (λ r. bad-counts-refused starts targets counts r bad) (check-counted-answers starts targets counts) (done .verdict)
+
+-- which refuses a table with a directed cycle, too: by 9, where there is room,
+pub fold-refuses-cycle : (starts targets counts : List ℕ) (budget : ℕ) (out-starts out-targets out-counts a b c : List ℕ) (number folded left edges : ℕ) → Counted starts targets counts
+    → (foldRoom starts targets out-starts out-targets out-counts) .met → Cyclic (Edge starts targets)
+    → FoldDone starts targets counts budget out-starts out-targets out-counts a b c number folded left edges → number ≡ 9
+fold-refuses-cycle starts targets counts budget out-starts out-targets out-counts a b c number folded left edges ok room cycle done =
+    verdict-unique (countedDemands starts targets counts ++ foldRoom starts targets out-starts out-targets out-counts ∷ noCycle starts targets ∷ []) number 9 (done .verdict)
+    (goes-on (countedDemands starts targets counts) (foldRoom starts targets out-starts out-targets out-counts ∷ noCycle starts targets ∷ []) 9 (counted-meets starts targets counts ok)
+    (inr (room, inl ((λ none. none cycle), refl))))
+
+-- and the writing of an image;
+pub write-refuses-bad : (starts targets counts image image′ : List ℕ) (number size : ℕ) → (Counted starts targets counts → ⊥) → Written starts targets counts image image′ number size
+    → number ≡ 0 → ⊥
+write-refuses-bad starts targets counts image image′ number size bad done =
+    still-refused (countedDemands starts targets counts) (writeRoom starts targets image ∷ []) number (λ r. bad-counts-refused starts targets counts r bad) (check-counted-answers starts targets counts)
+    (done .verdict)
 
 -- and bytes that are the image of no well-formed table
 pub bad-image-refused : (image starts targets counts starts′ targets′ counts′ : List ℕ) (number n m : ℕ) → Below 256 image → (GoodImage image → ⊥)

@@ -16,6 +16,10 @@ use Rattle.table.proofs.Accepted.{table-met, well-formed-accepted}
 use Rattle.table.proofs.RowLaws.{edges-below}
 use Rattle.bubble.specs.Superbubble.{Superbubble}
 use Rattle.bubble.proofs.Number.{entrance-below}
+use Rattle.bubble.proofs.Unique.{exit-unique}
+use Rattle.listing.specs.Graphs.{Graph, flat, graphs, RightlyListed, Each}
+use Rattle.listing.proofs.ListLaws.{listed-determined}
+use Rattle.listing.proofs.TwelveGraphs.{twelve-graphs}
 use Rattle.listing.specs.Listing.{Stands, Listed, listRoom, pairInside, ListDone, Judged, JudgeDone}
 use Rattle.rule.specs.Fold.{Candidate, Item, first-takes-all}
 use Rattle.rule.specs.Tables.{TableFolded}
@@ -68,6 +72,25 @@ module _ {starts targets out out′ : List ℕ} {number found : ℕ} (ok : WellF
   -- What stands behind the list is as it was.
   pub list-rest : out′ ≡ take (2 * found) out′ ++ drop (2 * found) out
   list-rest = done .taken list-accepted .front ∙ ap (λ (l : List ℕ). l ++ drop (2 * found) out) (sym pairs-at-front)
+
+-- what list writes for a graph is the list that document 01 prints
+abbrev pub AsPrinted : Graph → Type 0
+AsPrinted g = (out out′ : List ℕ) (found : ℕ) → ListDone (g .starts) (g .targets) out out′ 0 found → (found ≡ length (g .pairs)) × (take (2 * found) out′ ≡ flat (g .pairs))
+
+as-printed : (g : Graph) → RightlyListed g → AsPrinted g
+as-printed g printed out out′ found done =
+    let at = done .taken refl in
+    let (many, pairs)
+    = listed-determined (Superbubble (Edge (g .starts) (g .targets))) (λ s t u p q. exit-unique p q) (at .pairs) (flat (g .pairs)) found (length (g .pairs)) (at .listed) printed in
+    (many, ap (take (2 * found)) (at .front) ∙ take-at (at .pairs) (drop (2 * found) out) (2 * found) (at .listed .long) ∙ pairs)
+
+each-as-printed : (l : List Graph) → Each RightlyListed l → Each AsPrinted l
+each-as-printed [] all = tt
+each-as-printed (g ∷ rest) all = (as-printed g (all .0), each-as-printed rest (all .1))
+
+-- So it is for the twelve graphs of document 01.
+pub twelve-lists : Each AsPrinted graphs
+twelve-lists = each-as-printed graphs twelve-graphs
 
 -- A pair of vertices of any well-formed table is judged: yes exactly if it is a superbubble, and then the number of vertices in U.
 pub judged : {starts targets : List ℕ} {s t number size : ℕ} {answer : Bool} → WellFormed starts targets → s < vertices starts → t < vertices starts

@@ -1,2 +1,3 @@
 -- The words of the promises. Assumes nothing.
+pub mod Images
 pub mod Calls

@@ -1,2 +1,2 @@
--- The laws of `report`.
+-- The laws of `report`. Assumes nothing.
 pub mod ReadFronts

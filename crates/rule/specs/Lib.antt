@@ -1,4 +1,4 @@
--- The definitions of `rule`, in the order in which one reads them.
+-- The definitions of `rule`, in the order in which one reads them. Assumes nothing.
 pub mod Lists
 pub mod Kept
 pub mod Fold

@@ -1,4 +1,4 @@
--- The laws of `search`, in the order in which one reads them.
+-- The laws of `search`, in the order in which one reads them. Assumes nothing.
 -- numbers and lists
 pub mod SumLaws
 pub mod OccurrenceLaws

@@ -1,3 +1,3 @@
--- The definitions of `search`, in the order in which one reads them.
+-- The definitions of `search`, in the order in which one reads them. Assumes nothing.
 pub mod Search
 pub mod Steps

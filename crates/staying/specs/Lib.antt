@@ -1,2 +1,2 @@
--- The definitions of `staying`.
+-- The definitions of `staying`. Assumes nothing.
 pub mod Staying

@@ -1,4 +1,4 @@
--- The laws of `table`, in the order in which one reads them.
+-- The laws of `table`, in the order in which one reads them. Assumes nothing.
 pub mod RowLaws
 pub mod SumLaws
 pub mod FrontLaws

@@ -1,4 +1,4 @@
--- The laws of `vertices`, in the order in which one reads them.
+-- The laws of `vertices`, in the order in which one reads them. Assumes nothing.
 pub mod NumberLaws
 pub mod BitLaws
 pub mod SetLaws

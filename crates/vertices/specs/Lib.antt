@@ -1,2 +1,2 @@
--- The definitions of `vertices`.
+-- The definitions of `vertices`. Assumes nothing.
 pub mod Vertices
