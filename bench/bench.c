@@ -323,7 +323,8 @@ static void grow(const char *operation, void (*our)(void), void (*their)(void), 
 }
 
 static void growth(void) {
-    printf("\n%-10s %-10s %6s %6s %12s %7s\n", "operation", "table", "n", "m", "verified us", "factor");
+    printf("\ngrowth: the time against that of half as many vertices\n");
+    printf("%-10s %-10s %6s %6s %12s %7s\n", "operation", "table", "n", "m", "verified us", "factor");
     grow("list", gohardim_lists, plain_lists, make_chain);
     grow("list", gohardim_lists, plain_lists, make_nested);
     grow("list", gohardim_lists, plain_lists, make_comb);
@@ -379,6 +380,7 @@ static void depths(void) {
 int main(int arguments, char **argument) {
     timing = arguments < 2 || strcmp(argument[1], "answers") != 0;
     if (!timing) {
+        printf("answers of the library and of the plain C, and the library's stack\n");
         compare();
         depths();
         printf("%d passed, %d failed\n", passed, failed);
@@ -388,7 +390,8 @@ int main(int arguments, char **argument) {
     compare();
     printf("largest ratio: %.3f\n", worst);
     growth();
-    printf("\n%-10s %-10s %6s %6s %10s %10s\n", "operation", "table", "n", "m", "verified", "plain C");
+    printf("\nstack, in bytes\n");
+    printf("%-10s %-10s %6s %6s %10s %10s\n", "operation", "table", "n", "m", "verified", "plain C");
     depths();
     return 0;
 }

@@ -20,6 +20,10 @@ impl Cases {
             let table = shape.relabelled(&mut self.next_random()).counted(1);
             self.add_run("many superbubbles", ProgramRun::list(image::of_table(&table)));
         }
+        for program in ["show", "list"] {
+            let run = ProgramRun::of_stream(program, &["J.sbt"], of_letter("J"), Due::Usage);
+            self.add_run("a name for a stream", run);
+        }
         self.judges();
         self.folded_files();
         self.files_left_alone();
@@ -196,6 +200,9 @@ impl Cases {
         let words = ["1", &name, "out.sbt"];
         let files = file(&name, of_letter("J"));
         self.add_run("IN is what a stop left", ProgramRun::fold_refusing(&words, files));
+        let words = ["1", "in.sbt", &name];
+        let files = file("in.sbt", of_letter("J"));
+        self.add_run("OUT has the other name's ending", ProgramRun::fold_refusing(&words, files));
         let files = [file("folder/", vec![]), file("in.sbt", of_letter("J"))].concat();
         let words = ["1", "in.sbt", "folder"];
         self.add_run("OUT is a folder", ProgramRun::fold_refusing(&words, files));

@@ -66,16 +66,25 @@ fn ends_so(name: &[u8]) -> bool {
     true
 }
 
-// Reads IN, as much of it as the slice holds. What has the other name's ending is not taken: it could be the file that is removed below.
+// Whether a name has the other name's ending, which is then said: it is taken neither as IN nor as OUT, since it could be the file that a fold removes.
+fn is_kept(name: &[u8], advice: &[u8]) -> bool {
+    if !ends_so(name) {
+        return false;
+    }
+    io::write_all(libc::STDERR_FILENO, name);
+    io::write_all(
+        libc::STDERR_FILENO,
+        b": this ending is kept for what a fold writes before it is done\n",
+    );
+    io::write_all(libc::STDERR_FILENO, advice);
+    true
+}
+
+// Reads IN, as much of it as the slice holds.
 pub fn read(from: &[u8], stream: &mut [u8]) -> Input
     ensures { λ r. ⌜ Counts (r .count) (now (stream .exit)) ⌝ }
 {
-    if ends_so(from) {
-        io::write_all(libc::STDERR_FILENO, from);
-        io::write_all(
-            libc::STDERR_FILENO,
-            b": this ending is kept for what a fold writes before it is done\nfold: no file was written; give IN another name\n",
-        );
+    if is_kept(from, b"fold: no file was written; give IN another name\n") {
         return missing();
     }
     let fd = os::open_read(from);
@@ -130,6 +139,9 @@ fn may_replace(to: &[u8]) -> bool {
 
 // Writes the bytes under the other name, and renames it to OUT. The file that an earlier stop left there is removed first.
 fn replace_by(name: &[u8], to: &[u8], bytes: &[u8]) -> bool {
+    if is_kept(to, b"fold: no file was written; give OUT another name\n") {
+        return false;
+    }
     if !may_replace(to) {
         io::write_all(
             libc::STDERR_FILENO,
@@ -142,7 +154,7 @@ fn replace_by(name: &[u8], to: &[u8], bytes: &[u8]) -> bool {
     if fd < 0 {
         failed(
             name,
-            b"fold: the new image could not be written, and OUT is as it was; this is where it is written first, in the folder of OUT, which must exist and be writable\n",
+            b"fold: the new image could not be written, and OUT is as it was; this is where it is written first, in the folder of OUT, which must exist and be writable; this name must be free, and not too long\n",
         );
         return false;
     }

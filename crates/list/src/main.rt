@@ -64,7 +64,7 @@ fn image_lines(
 }
 
 // Reads the image on standard input and prints the list of its table.
-fn main() {
+fn list_input() {
     let mut stream = [0u8; MOST];
     let count = io::read_full(libc::STDIN_FILENO, &mut stream);
     let mut starts = [0u32; 2049];
@@ -81,4 +81,18 @@ fn main() {
         &mut pairs,
     );
     text::flush(&out, end);
+}
+
+// Says how the program is called.
+fn usage() {
+    io::write_all(libc::STDOUT_FILENO, b"usage: list < IMAGE\n");
+}
+
+// Lists the table on standard input. A word behind the program's name is a mistake: the image comes through `<`.
+fn main() {
+    if os::arg_count() > 1 {
+        usage();
+        return;
+    }
+    list_input();
 }

@@ -4,8 +4,22 @@
 const MOST: usize = image::Header::LARGEST + 1;
 
 // Reads the image on standard input and prints its table.
-fn main() {
+fn show_input() {
     let mut stream = [0u8; MOST];
     let count = io::read_full(libc::STDIN_FILENO, &mut stream);
     report::show(&stream[..count]);
+}
+
+// Says how the program is called.
+fn usage() {
+    io::write_all(libc::STDOUT_FILENO, b"usage: show < IMAGE\n");
+}
+
+// Shows the table on standard input. A word behind the program's name is a mistake: the image comes through `<`.
+fn main() {
+    if os::arg_count() > 1 {
+        usage();
+        return;
+    }
+    show_input();
 }

@@ -4,11 +4,21 @@
 ghost use Prim.Native.Nat.{_≤_};
 ghost use lib.ListN.{length};
 
-// Writes the first `count` bytes.
+// Says on standard error that the answer is not whole.
+fn not_whole() {
+    io::write_all(
+        libc::STDERR_FILENO,
+        b"standard output could not be written: the answer there is not whole, and not to be used\n",
+    );
+}
+
+// Writes the first `count` bytes, and says so where they could not be written.
 fn write_front(bytes: &[u8], count: usize)
     requires { ⌜ count ≤ length (now bytes) ⌝ }
 {
-    io::write_all(libc::STDOUT_FILENO, &bytes[..count]);
+    if !io::write_all(libc::STDOUT_FILENO, &bytes[..count]) {
+        not_whole();
+    }
 }
 
 // Writes out what stands in the buffer before the place.
