@@ -34,8 +34,8 @@ fn check_both(lent: Lent, words: &[u32], counts: &[u64]) -> Checked
 
 // Puts both numbers.
 fn put_checked(out: &mut [u8; 4096], at: usize, checked: Checked) -> usize
-    requires { ⌜ at ≤ 4096 ⌝ }
-    ensures { λ r. ⌜ r ≤ 4096 ⌝ }
+    requires { ⌜ at ≤ 4097 ⌝ }
+    ensures { λ r. ⌜ r ≤ 4097 ⌝ }
 {
     let mut place = put_named(out, at, b"check", checked.without);
     place = put_named(out, place, b" counted", checked.counted);
@@ -50,8 +50,8 @@ pub fn check_case(
     words: &mut [u32],
     counts: &mut [u64],
 ) -> Step
-    requires { ⌜ at ≤ 4096 ⌝ }
-    ensures { λ r. ⌜ r .place ≤ 4096 ⌝ }
+    requires { ⌜ at ≤ 4097 ⌝ }
+    ensures { λ r. ⌜ r .place ≤ 4097 ⌝ }
 {
     let lent = lay(body, 0, words, counts);
     if !lent.fit {

@@ -24,8 +24,8 @@ fn put_folded(
     targets2: &mut [u32],
     counts2: &mut [u64],
 ) -> usize
-    requires { ⌜ at ≤ 4096 ⌝ }
-    ensures { λ r. ⌜ r ≤ 4096 ⌝ }
+    requires { ⌜ at ≤ 4097 ⌝ }
+    ensures { λ r. ⌜ r ≤ 4097 ⌝ }
 {
     let folded = folding::fold(starts, targets, counts, budget, starts2, targets2, counts2);
     let mut place = put_head(out, at, b"fold", folded.number, folded.folded);
@@ -48,7 +48,7 @@ fn fold_rooms(
     counts2: &mut [u64],
 ) -> usize
     requires { ⌜
-        (at ≤ 4096)
+        (at ≤ 4097)
         × (room .starts ≤ length (now starts2))
         × (room .targets ≤ length (now targets2))
         × (room .counts ≤ length (now counts2))
@@ -56,7 +56,7 @@ fn fold_rooms(
         × (lent .rows ≤ length (now words))
         × (lent .counts ≤ length (now counts))
         ⌝ }
-    ensures { λ r. ⌜ r ≤ 4096 ⌝ }
+    ensures { λ r. ⌜ r ≤ 4097 ⌝ }
 {
     let a = lent.starts;
     let e = lent.rows;
@@ -85,8 +85,8 @@ pub fn fold_case(
     words: &mut [u32],
     counts: &mut [u64],
 ) -> Step
-    requires { ⌜ at ≤ 4096 ⌝ }
-    ensures { λ r. ⌜ r .place ≤ 4096 ⌝ }
+    requires { ⌜ at ≤ 4097 ⌝ }
+    ensures { λ r. ⌜ r .place ≤ 4097 ⌝ }
 {
     let room = rooms(body, 4);
     let lent = lay(body, 16, words, counts);

@@ -17,8 +17,8 @@ const MOST: usize = image::Header::LARGEST + 1;
 
 // The operation `s`: a stream.
 pub fn show_case(out: &mut [u8; 4096], at: usize, body: &[u8]) -> Step
-    requires { ⌜ at ≤ 4096 ⌝ }
-    ensures { λ r. ⌜ r .place ≤ 4096 ⌝ }
+    requires { ⌜ at ≤ 4097 ⌝ }
+    ensures { λ r. ⌜ r .place ≤ 4097 ⌝ }
 {
     if body.len() > MOST {
         return bad_case(out, at);
@@ -26,7 +26,8 @@ pub fn show_case(out: &mut [u8; 4096], at: usize, body: &[u8]) -> Step
     let mut starts = [0u32; 4096];
     let mut targets = [0u32; 16_384];
     let mut counts = [0u64; 4096];
-    answered(report::show_with(out, at, body, &mut starts, &mut targets, &mut counts))
+    let answer = report::show_with(out, at, body, &mut starts, &mut targets, &mut counts);
+    answered(answer.place)
 }
 
 // Writes the image of a table into so much of the slice as the room says, and puts the answer and that much as the call left it.
@@ -40,13 +41,13 @@ fn put_written(
     image: &mut [u8],
 ) -> usize
     requires { ⌜
-        (at ≤ 4096)
+        (at ≤ 4097)
         × (room ≤ length (now image))
         × (lent .starts ≤ lent .rows)
         × (lent .rows ≤ length (now words))
         × (lent .counts ≤ length (now counts))
         ⌝ }
-    ensures { λ r. ⌜ r ≤ 4096 ⌝ }
+    ensures { λ r. ⌜ r ≤ 4097 ⌝ }
 {
     let a = lent.starts;
     let e = lent.rows;
@@ -71,8 +72,8 @@ pub fn write_case(
     words: &mut [u32],
     counts: &mut [u64],
 ) -> Step
-    requires { ⌜ at ≤ 4096 ⌝ }
-    ensures { λ r. ⌜ r .place ≤ 4096 ⌝ }
+    requires { ⌜ at ≤ 4097 ⌝ }
+    ensures { λ r. ⌜ r .place ≤ 4097 ⌝ }
 {
     let room = number(body, 0) as usize;
     let lent = lay(body, 4, words, counts);
@@ -94,12 +95,12 @@ fn put_read(
     counts: &mut [u64],
 ) -> usize
     requires { ⌜
-        (at ≤ 4096)
+        (at ≤ 4097)
         × (room .starts ≤ length (now starts))
         × (room .targets ≤ length (now targets))
         × (room .counts ≤ length (now counts))
         ⌝ }
-    ensures { λ r. ⌜ r ≤ 4096 ⌝ }
+    ensures { λ r. ⌜ r ≤ 4097 ⌝ }
 {
     let a = room.starts;
     let b = room.targets;
@@ -117,8 +118,8 @@ fn put_read(
 
 // The operation `r`: the rooms of the three slices, whose numbers are all 7, then a stream.
 pub fn read_case(out: &mut [u8; 4096], at: usize, body: &[u8]) -> Step
-    requires { ⌜ at ≤ 4096 ⌝ }
-    ensures { λ r. ⌜ r .place ≤ 4096 ⌝ }
+    requires { ⌜ at ≤ 4097 ⌝ }
+    ensures { λ r. ⌜ r .place ≤ 4097 ⌝ }
 {
     let room = rooms(body, 0);
     let rest = room.rest;

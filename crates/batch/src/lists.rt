@@ -20,12 +20,12 @@ fn put_listed(
     list: &mut [u32],
 ) -> usize
     requires { ⌜
-        (at ≤ 4096)
+        (at ≤ 4097)
         × (room ≤ length (now list))
         × (lent .starts ≤ lent .rows)
         × (lent .rows ≤ length (now words))
         ⌝ }
-    ensures { λ r. ⌜ r ≤ 4096 ⌝ }
+    ensures { λ r. ⌜ r ≤ 4097 ⌝ }
 {
     let a = lent.starts;
     let e = lent.rows;
@@ -38,8 +38,8 @@ fn put_listed(
 
 // The operation `l`: the room of the list slice, whose numbers are all 7, two lengths, then starts and targets.
 pub fn list_case(out: &mut [u8; 4096], at: usize, body: &[u8], words: &mut [u32]) -> Step
-    requires { ⌜ at ≤ 4096 ⌝ }
-    ensures { λ r. ⌜ r .place ≤ 4096 ⌝ }
+    requires { ⌜ at ≤ 4097 ⌝ }
+    ensures { λ r. ⌜ r .place ≤ 4097 ⌝ }
 {
     let room = number(body, 0) as usize;
     let lent = lay_rows(body, 4, words);
@@ -61,8 +61,8 @@ fn judge_lent(lent: Lent, words: &[u32], s: u32, t: u32) -> listing::Judgement
 
 // Puts what judging answered.
 fn put_judged(out: &mut [u8; 4096], at: usize, judged: listing::Judgement) -> usize
-    requires { ⌜ at ≤ 4096 ⌝ }
-    ensures { λ r. ⌜ r ≤ 4096 ⌝ }
+    requires { ⌜ at ≤ 4097 ⌝ }
+    ensures { λ r. ⌜ r ≤ 4097 ⌝ }
 {
     let mut place = put_head(out, at, b"judge", judged.number, judged.yes as usize);
     place = text::next_number(out, place, judged.size as u64);
@@ -71,8 +71,8 @@ fn put_judged(out: &mut [u8; 4096], at: usize, judged: listing::Judgement) -> us
 
 // The operation `j`: the pair, two lengths, then starts and targets.
 pub fn judge_case(out: &mut [u8; 4096], at: usize, body: &[u8], words: &mut [u32]) -> Step
-    requires { ⌜ at ≤ 4096 ⌝ }
-    ensures { λ r. ⌜ r .place ≤ 4096 ⌝ }
+    requires { ⌜ at ≤ 4097 ⌝ }
+    ensures { λ r. ⌜ r .place ≤ 4097 ⌝ }
 {
     let lent = lay_rows(body, 8, words);
     if !lent.fit {

@@ -25,7 +25,7 @@ use step::Step;
 use step::bad_case;
 use step::last;
 
-// A case as it was read: whether there is one, its operation, and the length of its body. One that is cut off or too long has the operation 0, which is none.
+// A case as it was read: whether there is one, its operation, and the length of its body. One that is cut off, too long or could not be read has the operation 0, which is none.
 struct Case {
     more: bool,
     operation: u8,
@@ -50,7 +50,8 @@ fn read_body(head: &[u8; 5], body: &mut [u8]) -> Case
     if length > body.len() {
         return cut_off();
     }
-    if io::read_full(libc::STDIN_FILENO, &mut body[..length]) < length {
+    let came = files::read(libc::STDIN_FILENO, &mut body[..length]);
+    if came.error != 0 || came.count < length {
         return cut_off();
     }
     Case {
@@ -65,15 +66,18 @@ fn next_case(body: &mut [u8]) -> Case
     ensures { λ r. ⌜ r .length ≤ length (now (body .exit)) ⌝ }
 {
     let mut head = [0u8; 5];
-    let came = io::read_full(libc::STDIN_FILENO, &mut head);
-    if came == 0 {
+    let came = files::read(libc::STDIN_FILENO, &mut head);
+    if came.error != 0 {
+        return cut_off();
+    }
+    if came.count == 0 {
         return Case {
             more: false,
             operation: 0,
             length: 0,
         };
     }
-    if came < 5 {
+    if came.count < 5 {
         return cut_off();
     }
     read_body(&head, body)
@@ -88,8 +92,8 @@ fn answer(
     words: &mut [u32],
     counts: &mut [u64],
 ) -> Step
-    requires { ⌜ at ≤ 4096 ⌝ }
-    ensures { λ r. ⌜ r .place ≤ 4096 ⌝ }
+    requires { ⌜ at ≤ 4097 ⌝ }
+    ensures { λ r. ⌜ r .place ≤ 4097 ⌝ }
 {
     match operation {
         b's' => show_case(out, at, body),
@@ -111,8 +115,8 @@ fn one_case(
     words: &mut [u32],
     counts: &mut [u64],
 ) -> Step
-    requires { ⌜ at ≤ 4096 ⌝ }
-    ensures { λ r. ⌜ r .place ≤ 4096 ⌝ }
+    requires { ⌜ at ≤ 4097 ⌝ }
+    ensures { λ r. ⌜ r .place ≤ 4097 ⌝ }
 {
     let case = next_case(body);
     if !case.more {
@@ -139,7 +143,7 @@ fn all_cases(out: &mut [u8; 4096], body: &mut [u8], words: &mut [u32], counts: &
         at = step.place;
         turns = turns_left(turns, step.more);
     }
-    text::flush(out, at);
+    report::print(out, report::accepted(at));
 }
 
 fn main() {

@@ -3,8 +3,8 @@ ghost use Prim.Native.Nat.{_≤_};
 
 // Puts a name and a number.
 pub fn put_named(out: &mut [u8; 4096], at: usize, name: &[u8], number: u32) -> usize
-    requires { ⌜ at ≤ 4096 ⌝ }
-    ensures { λ r. ⌜ r ≤ 4096 ⌝ }
+    requires { ⌜ at ≤ 4097 ⌝ }
+    ensures { λ r. ⌜ r ≤ 4097 ⌝ }
 {
     let place = text::word(out, at, name);
     text::next_number(out, place, number as u64)
@@ -12,8 +12,8 @@ pub fn put_named(out: &mut [u8; 4096], at: usize, name: &[u8], number: u32) -> u
 
 // Puts the name of an answer, its number, and the number that follows.
 pub fn put_head(out: &mut [u8; 4096], at: usize, name: &[u8], number: u32, next: usize) -> usize
-    requires { ⌜ at ≤ 4096 ⌝ }
-    ensures { λ r. ⌜ r ≤ 4096 ⌝ }
+    requires { ⌜ at ≤ 4097 ⌝ }
+    ensures { λ r. ⌜ r ≤ 4097 ⌝ }
 {
     let place = put_named(out, at, name, number);
     text::next_number(out, place, next as u64)
@@ -21,8 +21,8 @@ pub fn put_head(out: &mut [u8; 4096], at: usize, name: &[u8], number: u32, next:
 
 // Puts a number in four bytes.
 fn put_word(out: &mut [u8; 4096], at: usize, x: u64) -> usize
-    requires { ⌜ at ≤ 4096 ⌝ }
-    ensures { λ r. ⌜ r ≤ 4096 ⌝ }
+    requires { ⌜ at ≤ 4097 ⌝ }
+    ensures { λ r. ⌜ r ≤ 4097 ⌝ }
 {
     let mut place = text::byte(out, at, (x % 256) as u8);
     place = text::byte(out, place, (x / 256 % 256) as u8);
@@ -32,8 +32,8 @@ fn put_word(out: &mut [u8; 4096], at: usize, x: u64) -> usize
 
 // Puts each number in four bytes.
 pub fn put_words(out: &mut [u8; 4096], at: usize, numbers: &[u32]) -> usize
-    requires { ⌜ at ≤ 4096 ⌝ }
-    ensures { λ r. ⌜ r ≤ 4096 ⌝ }
+    requires { ⌜ at ≤ 4097 ⌝ }
+    ensures { λ r. ⌜ r ≤ 4097 ⌝ }
 {
     let mut place = at;
     let mut k = 0;
@@ -46,8 +46,8 @@ pub fn put_words(out: &mut [u8; 4096], at: usize, numbers: &[u32]) -> usize
 
 // Puts each number in eight bytes.
 pub fn put_longs(out: &mut [u8; 4096], at: usize, numbers: &[u64]) -> usize
-    requires { ⌜ at ≤ 4096 ⌝ }
-    ensures { λ r. ⌜ r ≤ 4096 ⌝ }
+    requires { ⌜ at ≤ 4097 ⌝ }
+    ensures { λ r. ⌜ r ≤ 4097 ⌝ }
 {
     let mut place = at;
     let mut k = 0;
@@ -68,8 +68,8 @@ pub fn put_slices(
     targets: &[u32],
     counts: &[u64],
 ) -> usize
-    requires { ⌜ at ≤ 4096 ⌝ }
-    ensures { λ r. ⌜ r ≤ 4096 ⌝ }
+    requires { ⌜ at ≤ 4097 ⌝ }
+    ensures { λ r. ⌜ r ≤ 4097 ⌝ }
 {
     let mut place = text::byte(out, at, b'\n');
     place = put_words(out, place, starts);

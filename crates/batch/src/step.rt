@@ -29,8 +29,8 @@ pub fn last(at: usize) -> Step
 
 // A case that cannot be answered.
 pub fn bad_case(out: &mut [u8; 4096], at: usize) -> Step
-    requires { ⌜ at ≤ 4096 ⌝ }
-    ensures { λ r. ⌜ r .place ≤ 4096 ⌝ }
+    requires { ⌜ at ≤ 4097 ⌝ }
+    ensures { λ r. ⌜ r .place ≤ 4097 ⌝ }
 {
     last(text::word(out, at, b"bad case\n"))
 }

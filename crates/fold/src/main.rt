@@ -1,19 +1,17 @@
 // Folds the table that stands in the image in the file IN: `fold BUDGET IN OUT` writes the image of the new table to the file OUT and prints `folded F left L edges M`; or it prints `refused N`, and no file is written.
-mod budget;
-mod files;
 mod folds;
 
 ghost use Prim.Native.Nat.{_≤_};
-ghost use lib.ListN.{length};
-use budget::Budget;
+use files::Replaced;
 use folds::Outcome;
+use words::Numeral;
 
 // One byte more than the largest image is read, so that a longer file gets the number that its header earns.
 const MOST: usize = image::Header::LARGEST + 1;
 
 // Puts the line of a fold.
 fn folded_line(out: &mut [u8; 4096], outcome: Outcome) -> usize
-    ensures { λ r. ⌜ r ≤ 4096 ⌝ }
+    ensures { λ r. ⌜ r ≤ 4097 ⌝ }
 {
     let mut place = text::word(out, 0, b"folded");
     place = text::next_number(out, place, outcome.folded as u64);
@@ -24,24 +22,45 @@ fn folded_line(out: &mut [u8; 4096], outcome: Outcome) -> usize
     text::byte(out, place, b'\n')
 }
 
-// Prints `refused N`.
+// Says that the line could not be printed, and how OUT stands.
+fn unprinted(state: &[u8]) {
+    io::write_all(
+        libc::STDERR_FILENO,
+        b"standard output could not be written\n",
+    );
+    files::say_state(b"fold", state);
+}
+
+// Prints `refused N`, and its reason on standard error.
 fn print_refusal(number: u32) {
     let mut out = io::buffer();
-    let end = report::refusal(&mut out, 0, number);
-    text::flush(&out, end);
+    let answer = report::refusal(&mut out, 0, number);
+    if !text::flush(&out, answer.place) {
+        unprinted(b"the table is refused; OUT is as it was");
+        return;
+    }
+    report::reason(number);
 }
 
 // Prints the line of a fold.
 fn print_folded(outcome: Outcome) {
     let mut out = io::buffer();
     let end = folded_line(&mut out, outcome);
-    text::flush(&out, end);
+    if !text::flush(&out, end) {
+        unprinted(b"the fold is done all the same; OUT is the new table, whole");
+    }
 }
 
-// Folds an image and puts the new one in the place of OUT, and prints what came of it. The line of a fold is printed only where the new image stands at OUT.
-fn fold_stream(stream: &[u8], budget: u32, to: &[u8])
-    requires { ⌜ length (now to) ≤ 4096 ⌝ }
-{
+// Prints the line of a fold where the new image stands at OUT, and is on the disk; says why where it does not.
+fn print_replaced(replaced: Replaced, outcome: Outcome, to: &[u8]) {
+    match replaced {
+        Replaced::Done => print_folded(outcome),
+        _ => files::say_replaced(b"fold", to, replaced),
+    }
+}
+
+// Folds an image and puts the new one in the place of OUT, and prints what came of it.
+fn fold_stream(stream: &[u8], budget: u32, to: &[u8]) {
     let mut new = [0u8; image::Header::LARGEST];
     let outcome = folds::fold_image(stream, budget, &mut new);
     if outcome.number != 0 {
@@ -49,53 +68,68 @@ fn fold_stream(stream: &[u8], budget: u32, to: &[u8])
         return;
     }
     let length = outcome.length;
-    if files::replace(to, &new[..length]) {
-        print_folded(outcome);
-    }
+    let replaced = files::replace(to, &new[..length]);
+    print_replaced(replaced, outcome, to);
 }
 
 // Reads IN, folds its table, and writes OUT.
-fn fold_file(budget: u32, from: &[u8], to: &[u8])
-    requires { ⌜ length (now to) ≤ 4096 ⌝ }
-{
+fn fold_file(budget: u32, from: &[u8], to: &[u8]) {
     let mut stream = [0u8; MOST];
-    let input = files::read(from, &mut stream);
-    if !input.came {
+    let input = files::read_file(from, &mut stream);
+    if input.error != 0 {
+        files::say_reason(from, input.error);
+        files::say_state(b"fold", b"IN could not be read; OUT is as it was");
         return;
     }
     let count = input.count;
     fold_stream(&stream[..count], budget, to);
 }
 
-// Says how the program is called.
-fn usage() {
-    io::write_all(
-        libc::STDOUT_FILENO,
-        b"usage: fold BUDGET IN OUT, where BUDGET is a number from 0 to 4294967295, IN the file with an image, and OUT the file to write\n",
-    );
-}
-
-// Takes the budget and the two names from the arguments and folds.
-fn main() {
-    if os::arg_count() != 4 {
-        usage();
-        return;
-    }
-    let Budget::Number(budget) = budget::argument(1) else {
-        usage();
-        return;
-    };
+// Takes the two names from the words and folds.
+fn fold_named(budget: u32) {
     let mut from = io::buffer();
     let from_length = os::arg(2, &mut from);
     if os::errno() != 0 {
-        os::fail(b"the name IN");
+        files::say_reason(b"IN", os::errno());
+        files::say_state(b"fold", b"OUT is as it was");
         return;
     }
     let mut to = io::buffer();
     let to_length = os::arg(3, &mut to);
     if os::errno() != 0 {
-        os::fail(b"the name OUT");
+        files::say_reason(b"OUT", os::errno());
+        files::say_state(b"fold", b"OUT is as it was");
         return;
     }
     fold_file(budget, &from[..from_length], &to[..to_length]);
+}
+
+// Says how the program is called.
+fn usage() {
+    io::write_all(
+        libc::STDOUT_FILENO,
+        b"usage: fold BUDGET IN OUT: folds the first BUDGET, 0 to 4294967295, outermost superbubbles of the table in the file IN, and writes the file OUT\n",
+    );
+}
+
+// Fills closed standard streams before anything is opened, takes the budget, and folds.
+fn main() {
+    let error = files::fill_closed();
+    if error != 0 {
+        files::say_reason(b"/dev/null", error);
+        files::say_state(
+            b"fold",
+            b"standard streams that are closed could not be filled; OUT is as it was",
+        );
+        return;
+    }
+    if os::arg_count() != 4 {
+        usage();
+        return;
+    }
+    let Numeral::Is(budget) = words::number(1) else {
+        usage();
+        return;
+    };
+    fold_named(budget);
 }

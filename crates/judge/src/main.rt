@@ -1,70 +1,42 @@
 // Judges one pair of the table that stands in the image on standard input: `judge S T` prints `superbubble N` with N the vertices in U, or `no`, or `refused N`.
 ghost use Prim.Native.Nat.{_≤_};
+use report::Answer;
+use words::Numeral;
 
 // One byte more than the largest image is read, so that a longer stream gets the number that its header earns.
 const MOST: usize = image::Header::LARGEST + 1;
 
-// What an argument says.
+// What a word says of a vertex.
 enum Vertex {
     Number(u32),
     Wrong,
 }
 
-// A number of decimal digits. One that is too large for 32 bits is the largest of them, which is no vertex either.
-fn parse(digits: &[u8]) -> Vertex {
-    if digits.len() == 0 {
-        return Vertex::Wrong;
-    }
-    let mut value: u64 = 0;
-    let mut k = 0;
-    while k < digits.len() {
-        let digit = digits[k];
-        if digit < b'0' {
-            return Vertex::Wrong;
-        }
-        if digit > b'9' {
-            return Vertex::Wrong;
-        }
-        value = capped(value, digit);
-        k += 1;
-    }
-    Vertex::Number(value as u32)
-}
-
-// The value with one digit more, or 4,294,967,295 where that is less.
-fn capped(value: u64, digit: u8) -> u64
-    requires { ⌜ value ≤ 4294967295 ⌝ }
-    requires { ⌜ (48 ≤ digit) × (digit ≤ 57) ⌝ }
-    ensures { λ r. ⌜ r ≤ 4294967295 ⌝ }
-{
-    let more = 10 * value + (digit - 48) as u64;
-    if more > 4_294_967_295 {
-        return 4_294_967_295;
-    }
-    more
-}
-
-// The number that argument i says.
+// The vertex that word i says. A number that is too large for 32 bits is the largest of them, which is no vertex either.
 fn argument(i: usize) -> Vertex {
-    let mut buffer = io::buffer();
-    let count = os::arg(i, &mut buffer);
-    parse(&buffer[..count])
+    match words::number(i) {
+        Numeral::Is(v) => Vertex::Number(v),
+        Numeral::TooLarge => Vertex::Number(4_294_967_295),
+        Numeral::Wrong => Vertex::Wrong,
+    }
 }
 
 // Puts the answer of a pair.
-fn answer_line(out: &mut [u8; 4096], starts: &[u32], targets: &[u32], s: u32, t: u32) -> usize
-    ensures { λ r. ⌜ r ≤ 4096 ⌝ }
+fn answer_line(out: &mut [u8; 4096], starts: &[u32], targets: &[u32], s: u32, t: u32) -> Answer
+    ensures { λ r. ⌜ r .place ≤ 4097 ⌝ }
 {
     let judged = listing::judge(starts, targets, s, t);
     if judged.number != 0 {
         return report::refusal(out, 0, judged.number);
     }
     if !judged.yes {
-        return text::word(out, 0, b"no\n");
+        let place = text::word(out, 0, b"no\n");
+        return report::accepted(place);
     }
     let mut place = text::word(out, 0, b"superbubble");
     place = text::next_number(out, place, judged.size as u64);
-    text::byte(out, place, b'\n')
+    place = text::byte(out, place, b'\n');
+    report::accepted(place)
 }
 
 // Reads an image into the slices lent, and puts the answer of a pair of its table, or `refused N`.
@@ -76,8 +48,8 @@ fn image_line(
     counts: &mut [u64],
     s: u32,
     t: u32,
-) -> usize
-    ensures { λ r. ⌜ r ≤ 4096 ⌝ }
+) -> Answer
+    ensures { λ r. ⌜ r .place ≤ 4097 ⌝ }
 {
     let sizes = image::read(image, starts, targets, counts);
     if sizes.number != 0 {
@@ -91,12 +63,17 @@ fn image_line(
 // Reads the image on standard input and prints the answer.
 fn judge_input(s: u32, t: u32) {
     let mut stream = [0u8; MOST];
-    let count = io::read_full(libc::STDIN_FILENO, &mut stream);
+    let input = files::read(libc::STDIN_FILENO, &mut stream);
+    if input.error != 0 {
+        files::unread_input(input.error);
+        return;
+    }
+    let count = input.count;
     let mut starts = [0u32; 2049];
     let mut targets = [0u32; 8192];
     let mut counts = [0u64; 2048];
     let mut out = io::buffer();
-    let end = image_line(
+    let answer = image_line(
         &mut out,
         &stream[..count],
         &mut starts,
@@ -105,14 +82,14 @@ fn judge_input(s: u32, t: u32) {
         s,
         t,
     );
-    text::flush(&out, end);
+    report::print(&out, answer);
 }
 
 // Says how the program is called.
 fn usage() {
     io::write_all(
         libc::STDOUT_FILENO,
-        b"usage: judge S T < IMAGE, where S and T are vertices, numbers from 0\n",
+        b"usage: judge S T < IMAGE: says whether the vertices S and T, numbers from 0, are a superbubble, and of how many vertices\n",
     );
 }
 

@@ -1,14 +1,15 @@
 // Lists the superbubbles of the table that stands in the image on standard input: `superbubbles K`, then a line for each, entrance and exit, by rising entrance; or `refused N`.
 ghost use Prim.Native.Nat.{_*_, _≤_};
 ghost use lib.ListN.{length};
+use report::Answer;
 
 // One byte more than the largest image is read, so that a longer stream gets the number that its header earns.
 const MOST: usize = image::Header::LARGEST + 1;
 
 // Puts a line for each pair.
 fn pair_lines(out: &mut [u8; 4096], at: usize, pairs: &[u32], found: usize) -> usize
-    requires { ⌜ (2 * found ≤ length (now pairs)) × (at ≤ 4096) ⌝ }
-    ensures { λ r. ⌜ r ≤ 4096 ⌝ }
+    requires { ⌜ (2 * found ≤ length (now pairs)) × (at ≤ 4097) ⌝ }
+    ensures { λ r. ⌜ r ≤ 4097 ⌝ }
 {
     let mut place = at;
     let mut k = 0;
@@ -28,9 +29,9 @@ fn list_lines(
     starts: &[u32],
     targets: &[u32],
     pairs: &mut [u32],
-) -> usize
-    requires { ⌜ at ≤ 4096 ⌝ }
-    ensures { λ r. ⌜ r ≤ 4096 ⌝ }
+) -> Answer
+    requires { ⌜ at ≤ 4097 ⌝ }
+    ensures { λ r. ⌜ r .place ≤ 4097 ⌝ }
 {
     let listed = listing::list(starts, targets, pairs);
     if listed.number != 0 {
@@ -40,7 +41,8 @@ fn list_lines(
     let mut place = text::word(out, at, b"superbubbles");
     place = text::next_number(out, place, found as u64);
     place = text::byte(out, place, b'\n');
-    pair_lines(out, place, pairs, found)
+    place = pair_lines(out, place, pairs, found);
+    report::accepted(place)
 }
 
 // Reads an image into the slices lent, and puts the list of its table, or `refused N`.
@@ -51,8 +53,8 @@ fn image_lines(
     targets: &mut [u32],
     counts: &mut [u64],
     pairs: &mut [u32],
-) -> usize
-    ensures { λ r. ⌜ r ≤ 4096 ⌝ }
+) -> Answer
+    ensures { λ r. ⌜ r .place ≤ 4097 ⌝ }
 {
     let sizes = image::read(image, starts, targets, counts);
     if sizes.number != 0 {
@@ -66,13 +68,18 @@ fn image_lines(
 // Reads the image on standard input and prints the list of its table.
 fn list_input() {
     let mut stream = [0u8; MOST];
-    let count = io::read_full(libc::STDIN_FILENO, &mut stream);
+    let input = files::read(libc::STDIN_FILENO, &mut stream);
+    if input.error != 0 {
+        files::unread_input(input.error);
+        return;
+    }
+    let count = input.count;
     let mut starts = [0u32; 2049];
     let mut targets = [0u32; 8192];
     let mut counts = [0u64; 2048];
     let mut pairs = [0u32; 4096];
     let mut out = io::buffer();
-    let end = image_lines(
+    let answer = image_lines(
         &mut out,
         &stream[..count],
         &mut starts,
@@ -80,12 +87,15 @@ fn list_input() {
         &mut counts,
         &mut pairs,
     );
-    text::flush(&out, end);
+    report::print(&out, answer);
 }
 
 // Says how the program is called.
 fn usage() {
-    io::write_all(libc::STDOUT_FILENO, b"usage: list < IMAGE\n");
+    io::write_all(
+        libc::STDOUT_FILENO,
+        b"usage: list < IMAGE: prints the superbubbles of the table in an image, each as entrance and exit\n",
+    );
 }
 
 // Lists the table on standard input. A word behind the program's name is a mistake: the image comes through `<`.

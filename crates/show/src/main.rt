@@ -6,13 +6,21 @@ const MOST: usize = image::Header::LARGEST + 1;
 // Reads the image on standard input and prints its table.
 fn show_input() {
     let mut stream = [0u8; MOST];
-    let count = io::read_full(libc::STDIN_FILENO, &mut stream);
+    let input = files::read(libc::STDIN_FILENO, &mut stream);
+    if input.error != 0 {
+        files::unread_input(input.error);
+        return;
+    }
+    let count = input.count;
     report::show(&stream[..count]);
 }
 
 // Says how the program is called.
 fn usage() {
-    io::write_all(libc::STDOUT_FILENO, b"usage: show < IMAGE\n");
+    io::write_all(
+        libc::STDOUT_FILENO,
+        b"usage: show < IMAGE: prints the table in an image, for each vertex its number, its count and its successors\n",
+    );
 }
 
 // Shows the table on standard input. A word behind the program's name is a mistake: the image comes through `<`.

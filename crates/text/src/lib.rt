@@ -1,40 +1,41 @@
 // Text for standard output, gathered in a lent buffer that is written out whenever it is full.
 //
-// A place is where the next byte goes. Each function takes the place and answers the one after what it put.
+// A place is where the next byte goes. Each function takes the place and answers the one after what it put. A write that fails is told by the place, so that a program says it once, at its end.
 ghost use Prim.Native.Nat.{_≤_};
 ghost use lib.ListN.{length};
 
-// Says on standard error that the answer is not whole.
-fn not_whole() {
-    io::write_all(
-        libc::STDERR_FILENO,
-        b"standard output could not be written: the answer there is not whole, and not to be used\n",
-    );
-}
+// What a place is once a write has failed: nothing more is put then, and nothing more is written.
+const BROKEN: usize = 4097;
 
-// Writes the first `count` bytes, and says so where they could not be written.
-fn write_front(bytes: &[u8], count: usize)
+// Writes the first `count` bytes; answers whether all of them were written.
+fn write_front(bytes: &[u8], count: usize) -> bool
     requires { ⌜ count ≤ length (now bytes) ⌝ }
 {
-    if !io::write_all(libc::STDOUT_FILENO, &bytes[..count]) {
-        not_whole();
-    }
+    io::write_all(libc::STDOUT_FILENO, &bytes[..count])
 }
 
-// Writes out what stands in the buffer before the place.
-pub fn flush(out: &[u8; 4096], at: usize)
-    requires { ⌜ at ≤ 4096 ⌝ }
+// Writes out what stands in the buffer before the place; answers whether all that was ever put is written.
+pub fn flush(out: &[u8; 4096], at: usize) -> bool
+    requires { ⌜ at ≤ 4097 ⌝ }
 {
-    write_front(out, at);
+    if at == BROKEN {
+        return false;
+    }
+    write_front(out, at)
 }
 
 // Puts a byte, after writing the buffer out where it is full.
 pub fn byte(out: &mut [u8; 4096], at: usize, b: u8) -> usize
-    requires { ⌜ at ≤ 4096 ⌝ }
-    ensures { λ r. ⌜ r ≤ 4096 ⌝ }
+    requires { ⌜ at ≤ 4097 ⌝ }
+    ensures { λ r. ⌜ r ≤ 4097 ⌝ }
 {
+    if at == BROKEN {
+        return BROKEN;
+    }
     if at == 4096 {
-        flush(out, at);
+        if !flush(out, at) {
+            return BROKEN;
+        }
         out[0] = b;
         return 1;
     }
@@ -44,8 +45,8 @@ pub fn byte(out: &mut [u8; 4096], at: usize, b: u8) -> usize
 
 // Puts bytes, one after the other.
 pub fn word(out: &mut [u8; 4096], at: usize, bytes: &[u8]) -> usize
-    requires { ⌜ at ≤ 4096 ⌝ }
-    ensures { λ r. ⌜ r ≤ 4096 ⌝ }
+    requires { ⌜ at ≤ 4097 ⌝ }
+    ensures { λ r. ⌜ r ≤ 4097 ⌝ }
 {
     let mut place = at;
     let mut k = 0;
@@ -58,8 +59,8 @@ pub fn word(out: &mut [u8; 4096], at: usize, bytes: &[u8]) -> usize
 
 // Puts a number in shortest decimal.
 pub fn number(out: &mut [u8; 4096], at: usize, x: u64) -> usize
-    requires { ⌜ at ≤ 4096 ⌝ }
-    ensures { λ r. ⌜ r ≤ 4096 ⌝ }
+    requires { ⌜ at ≤ 4097 ⌝ }
+    ensures { λ r. ⌜ r ≤ 4097 ⌝ }
 {
     let mut digits = [0u8; 20];
     let count = io::decimal(x, &mut digits);
@@ -68,8 +69,8 @@ pub fn number(out: &mut [u8; 4096], at: usize, x: u64) -> usize
 
 // Puts a blank and a number.
 pub fn next_number(out: &mut [u8; 4096], at: usize, x: u64) -> usize
-    requires { ⌜ at ≤ 4096 ⌝ }
-    ensures { λ r. ⌜ r ≤ 4096 ⌝ }
+    requires { ⌜ at ≤ 4097 ⌝ }
+    ensures { λ r. ⌜ r ≤ 4097 ⌝ }
 {
     let place = byte(out, at, b' ');
     number(out, place, x)

@@ -1,5 +1,5 @@
 -- `batch::all_cases` is safe and ends. The loop's invariant: the place lies within the buffer, and each slice is as long as it was. The measure is the number of turns that are left. Assumes nothing.
-use Prim.Native.Nat.{_≤_}
+use Prim.Native.Nat.{_-_, _≤_}
 use mathlib.Core.Path.{_≡_}
 use lib.ListN.{length}
 use borrow.Author.Needs.{needs}
@@ -7,8 +7,7 @@ use Rattle.batch.proofs.all_cases.Statement.{statement}
 use Rattle.batch.proofs.all_cases.Tie as tie
 
 abbrev Inv-loop : tie.InvT-loop
-Inv-loop out₀ body₀ words₀ counts₀ turns₀ at₀ out body words counts turns at =
-    (at ≤ 4096) × (length body ≡ length body₀) × (length words ≡ length words₀) × (length counts ≡ length counts₀)
+Inv-loop out₀ body₀ words₀ counts₀ turns₀ at₀ out body words counts turns at = (at ≤ 4097) × (length body ≡ length body₀) × (length words ≡ length words₀) × (length counts ≡ length counts₀)
 
 abbrev μ-loop : tie.MeasureT-loop
 μ-loop out₀ body₀ words₀ counts₀ turns₀ at₀ out body words counts turns at = turns
@@ -28,8 +27,11 @@ loop-less c = search needs
 loop-again : tie.Need-loop-again Inv-loop μ-loop
 loop-again c = search needs
 
-flush-requires : tie.Need-flush-requires Inv-loop μ-loop
-flush-requires c κs = search needs
+accepted-requires : tie.Need-accepted-requires Inv-loop μ-loop
+accepted-requires c κs = search needs
+
+print-requires : tie.Need-print-requires Inv-loop μ-loop
+print-requires c κs = search needs
 
 same-length : tie.Need-same-length Inv-loop μ-loop
 same-length c = search needs
@@ -54,7 +56,8 @@ all-cases-spec =
     turns-left-requires
     loop-less
     loop-again
-    flush-requires
+    accepted-requires
+    print-requires
     same-length
     same-length-2
     same-length-3

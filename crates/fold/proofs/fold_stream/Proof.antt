@@ -1,4 +1,4 @@
--- `fold::fold_stream` meets its contract: the new image lies within its array. Assumes nothing.
+-- `fold::fold_stream` is safe: the new image lies within its array. Assumes nothing.
 use mathlib.Core.Path.{sym}
 use lib.Seq.{length-take-le}
 use borrow.Author.Needs.{needs}
@@ -26,14 +26,11 @@ slice-aggregate-replace c = sym (length-take-le _ _ (c .before .before .before .
 replace-requires : tie.Need-replace-requires
 replace-requires c κs = search needs
 
-print-folded-requires : tie.Need-print-folded-requires
-print-folded-requires c κs = search needs
+print-replaced-requires : tie.Need-print-replaced-requires
+print-replaced-requires c κs = search needs
 
 returns-2 : tie.Need-returns-2
 returns-2 c = search needs
-
-returns-3 : tie.Need-returns-3
-returns-3 c = search needs
 
 pub fold-stream-spec : {M : Type 1} → statement M
 fold-stream-spec =
@@ -46,6 +43,5 @@ fold-stream-spec =
     array-share-prefix-new
     slice-aggregate-replace
     replace-requires
-    print-folded-requires
-    returns-2
-    returns-3)
+    print-replaced-requires
+    returns-2)

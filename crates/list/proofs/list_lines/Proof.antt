@@ -31,6 +31,9 @@ byte-requires c κs = search needs
 pair-lines-requires : tie.Need-pair-lines-requires
 pair-lines-requires c κs = (list-within _ _ _ _ _ _ (c .before .before .before .before .before .before .before .before .before .before .before .before .before .list .ensures) (c .before .before .before .before .before .before .before .before .before .if1 .left), search needs)
 
+accepted-requires : tie.Need-accepted-requires
+accepted-requires c κs = search needs
+
 same-length-2 : tie.Need-same-length-2
 same-length-2 c = search needs
 
@@ -50,5 +53,6 @@ list-lines-spec =
     next-number-requires
     byte-requires
     pair-lines-requires
+    accepted-requires
     same-length-2
     returns-2)

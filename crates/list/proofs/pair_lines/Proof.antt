@@ -6,7 +6,7 @@ use Rattle.list.proofs.pair_lines.Statement.{statement}
 use Rattle.list.proofs.pair_lines.Tie as tie
 
 abbrev Inv-loop : tie.InvT-loop
-Inv-loop out₀ at pairs found place₀ k₀ out place k = (k ≤ found) × (place ≤ 4096)
+Inv-loop out₀ at pairs found place₀ k₀ out place k = (k ≤ found) × (place ≤ 4097)
 
 abbrev μ-loop : tie.MeasureT-loop
 μ-loop out₀ at pairs found place₀ k₀ out place k = found - k

@@ -8,7 +8,7 @@ use Rattle.report.proofs.rows.Statement.{statement}
 use Rattle.report.proofs.rows.Tie as tie
 
 abbrev Inv-loop : tie.InvT-loop
-Inv-loop out₀ at starts targets counts place₀ v₀ out place v = (v ≤ length counts) × (place ≤ 4096)
+Inv-loop out₀ at starts targets counts place₀ v₀ out place v = (v ≤ length counts) × (place ≤ 4097)
 
 abbrev μ-loop : tie.MeasureT-loop
 μ-loop out₀ at starts targets counts place₀ v₀ out place v = length counts - v

@@ -52,6 +52,9 @@ slice-aggregate-table-lines-3 c = sym (length-take-le _ _ (fronts (c .before .be
 table-lines-requires : tie.Need-table-lines-requires
 table-lines-requires c κs = (fronts (c .before .before .before .before) .counted, search needs)
 
+accepted-requires : tie.Need-accepted-requires
+accepted-requires c κs = search needs
+
 same-length-4 : tie.Need-same-length-4
 same-length-4 c = search needs
 
@@ -82,6 +85,7 @@ show-with-spec =
     slice-reshare-prefix-table-lines-3
     slice-aggregate-table-lines-3
     table-lines-requires
+    accepted-requires
     same-length-4
     same-length-5
     same-length-6

@@ -7,7 +7,7 @@ use Rattle.report.proofs.successors.Statement.{statement}
 use Rattle.report.proofs.successors.Tie as tie
 
 abbrev Inv-loop : tie.InvT-loop
-Inv-loop out₀ at row place₀ k₀ out place k = (k ≤ length row) × (place ≤ 4096)
+Inv-loop out₀ at row place₀ k₀ out place k = (k ≤ length row) × (place ≤ 4097)
 
 abbrev μ-loop : tie.MeasureT-loop
 μ-loop out₀ at row place₀ k₀ out place k = length row - k

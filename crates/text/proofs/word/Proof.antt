@@ -6,7 +6,7 @@ use Rattle.text.proofs.word.Statement.{statement}
 use Rattle.text.proofs.word.Tie as tie
 
 abbrev Inv-loop : tie.InvT-loop
-Inv-loop out₀ at bytes place₀ k₀ out place k = (k ≤ length bytes) × (place ≤ 4096)
+Inv-loop out₀ at bytes place₀ k₀ out place k = (k ≤ length bytes) × (place ≤ 4097)
 
 abbrev μ-loop : tie.MeasureT-loop
 μ-loop out₀ at bytes place₀ k₀ out place k = length bytes - k

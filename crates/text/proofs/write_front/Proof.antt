@@ -13,14 +13,8 @@ slice-aggregate-write-all c =
 write-all-requires : tie.Need-write-all-requires
 write-all-requires c κs = search needs
 
-not-whole-requires : tie.Need-not-whole-requires
-not-whole-requires c κs = search needs
-
 returns : tie.Need-returns
 returns c = search needs
 
-returns-2 : tie.Need-returns-2
-returns-2 c = search needs
-
 pub write-front-spec : {M : Type 1} → statement M
-write-front-spec = tie.close (tie.spec slice-aggregate-write-all write-all-requires not-whole-requires returns returns-2)
+write-front-spec = tie.close (tie.spec slice-aggregate-write-all write-all-requires returns)

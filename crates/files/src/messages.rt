@@ -1,0 +1,135 @@
+// What went wrong with a file, in words on standard error: what the system says of it and what to do, then what was done and how the file stands.
+use crate::replacing::Replaced;
+
+// Says some bytes. Where standard error cannot be written there is nowhere left to say it.
+fn say(words: &[u8]) {
+    io::write_all(libc::STDERR_FILENO, words);
+}
+
+// Says an error in words, with what to do where that is plain.
+fn say_error(error: i32) {
+    match error {
+        libc::EPERM | libc::EACCES => {
+            say(b"the rights do not allow it: look at the rights of the file and of its folder")
+        }
+        libc::ENOENT => say(b"there is no such file or folder: look at the name"),
+        libc::EINTR | libc::EAGAIN => say(b"it was interrupted"),
+        libc::EIO => say(b"its disk or device has a fault"),
+        libc::EBADF => say(b"it is closed"),
+        libc::ENOMEM | libc::EMFILE => {
+            say(b"the system has no memory, or no open files, left for it")
+        }
+        libc::EEXIST => say(b"the name is taken"),
+        libc::ENOTDIR => say(b"a part of the name is a file where a folder must be"),
+        libc::EISDIR => say(b"it is a folder: give the name of a file"),
+        libc::EFBIG => say(b"files may not become so large here"),
+        libc::ENOSPC => say(b"no room is left on its disk: make room there"),
+        libc::EROFS => say(b"its disk can only be read"),
+        libc::ENAMETOOLONG => say(b"the name is too long: give a shorter one"),
+        libc::ELOOP => say(b"the name leads through too many links"),
+        _ => say_number(error),
+    }
+}
+
+// Says an error that has no words here, as the system counts it.
+fn say_number(error: i32) {
+    say(b"the system's error ");
+    if error > 0 {
+        io::print_decimal(libc::STDERR_FILENO, error as u64);
+    }
+}
+
+// Says of a name what error the system answered.
+pub fn say_reason(name: &[u8], error: i32) {
+    say(name);
+    say(b": ");
+    say_error(error);
+    say(b"\n");
+}
+
+// Says that standard input could not be read.
+pub fn unread_input(error: i32) {
+    say(b"standard input could not be read: ");
+    say_error(error);
+    say(b"\nthere is no answer\n");
+}
+
+// Says how the file OUT of a program stands.
+pub fn say_state(program: &[u8], state: &[u8]) {
+    say(program);
+    say(b": ");
+    say(state);
+    say(b"\n");
+}
+
+// Says that OUT is nothing that is replaced.
+fn say_kind(program: &[u8], name: &[u8], kind: &[u8]) {
+    say(name);
+    say(kind);
+    say_state(
+        program,
+        b"OUT must be a plain file or a free name; OUT is as it was",
+    );
+}
+
+// Says that a step failed, and how OUT stands.
+fn say_step(program: &[u8], name: &[u8], error: i32, state: &[u8]) {
+    say_reason(name, error);
+    say_state(program, state);
+}
+
+// Says why OUT was not replaced; nothing where it was.
+pub fn say_replaced(program: &[u8], name: &[u8], replaced: Replaced) {
+    match replaced {
+        Replaced::Done => {}
+        Replaced::Link => say_kind(
+            program,
+            name,
+            b": it is a link: give the name of the file itself\n",
+        ),
+        Replaced::Folder => say_kind(program, name, b": it is a folder\n"),
+        Replaced::Special => say_kind(program, name, b": it is a pipe, a socket or a device\n"),
+        Replaced::Unseen(error) => say_step(
+            program,
+            name,
+            error,
+            b"OUT could not be looked at; OUT is as it was",
+        ),
+        Replaced::Protected(error) => say_step(
+            program,
+            name,
+            error,
+            b"OUT may not be written; OUT is as it was",
+        ),
+        Replaced::FolderUnopened(error) => say_step(
+            program,
+            name,
+            error,
+            b"the folder of OUT could not be opened for reading; OUT is as it was",
+        ),
+        Replaced::Unmade(error) => say_step(
+            program,
+            name,
+            error,
+            b"a new file could not be made in the folder of OUT; OUT is as it was",
+        ),
+        Replaced::Unwritten(error) => say_step(
+            program,
+            name,
+            error,
+            b"the new file could not be written to the disk whole; OUT is as it was",
+        ),
+        Replaced::Unrenamed(error) => say_step(
+            program,
+            name,
+            error,
+            b"the new file could not be renamed to OUT, or the system does not say that it was; OUT is the old table or the new one, whole",
+        ),
+        Replaced::FolderUnflushed(error) => say_step(
+            program,
+            name,
+            error,
+            b"the folder of OUT could not be flushed to the disk; OUT is the new table, whole, but a power loss could bring the old one back",
+        ),
+    }
+}

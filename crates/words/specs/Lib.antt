@@ -1,0 +1,2 @@
+-- The definitions of `words`. Assumes nothing.
+pub mod Decimal
