@@ -1,9 +1,10 @@
 //! Runs of the program `batch`: many questions to one run, and what it printed taken apart.
 
-use crate::count::quoted;
+use crate::count::{difference, quoted};
 use crate::operations::Operation;
 use crate::parallel;
 use crate::programs::{self, SHORT, WHOLE};
+use crate::runs;
 use std::path::Path;
 
 const QUESTIONS_TO_A_RUN: usize = 400;
@@ -35,7 +36,9 @@ fn ask_one_run(operations: &[&Operation]) -> Vec<Printed> {
     if last.is_ok() && !rest.is_empty() {
         *last = Err(format!("after its answer it printed {}", quoted(rest)));
     }
-    if let (Ok(_), Some(trouble)) = (&last, run.trouble()) {
+    let due = runs::status_of(&run.output);
+    let trouble = run.trouble(due).or_else(|| difference(b"", run.errors.as_bytes()));
+    if let (Ok(_), Some(trouble)) = (&last, trouble) {
         *last = Err(trouble);
     }
     printed

@@ -132,7 +132,6 @@ fn starts(program: &str, count: &mut Count) -> bool {
     }
     let (words, due) = runs::to_start(program);
     let run = programs::run(folder, words, &[], WHOLE, LONG);
-    let fault = run.trouble().or_else(|| due.fault(&run));
-    count.judge(&format!("{} with an empty input", words.join(" ")), fault);
-    run.trouble().is_none()
+    count.judge(&format!("{} with an empty input", words.join(" ")), due.fault(program, &run));
+    run.status.is_ok()
 }

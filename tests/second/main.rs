@@ -9,6 +9,7 @@
 //! - cases.rs, superbubble_cases.rs, fold_cases.rs, program_cases.rs: all that is asked
 //! - operations.rs, answers.rs, runs.rs, turns.rs: how it is asked, and the answers that are due
 //! - programs.rs, batch.rs, parallel.rs: the runs of the programs
+//! - sheet.rs: the words of the sheet that the programs say
 //! - compare.rs, self_test.rs, coverage.rs, examples.rs, count.rs: the comparison, and the checks that
 //!   need no program
 
@@ -35,6 +36,7 @@ mod random;
 mod runs;
 mod self_test;
 mod shapes;
+mod sheet;
 mod superbubble_cases;
 mod superbubbles;
 mod table;

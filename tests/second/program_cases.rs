@@ -7,8 +7,13 @@ use crate::graphs::{self, lettered, TWELVE};
 use crate::image;
 use crate::operations::LONGEST_STREAM;
 use crate::random::Random;
-use crate::runs::{under_way, Due, Files, ProgramRun};
+use crate::runs::{
+    message, unread, Due, Files, ProgramRun, IS_FOLDER, NO_FILE, NO_FOLDER, TOO_LONG,
+};
 use crate::shapes;
+
+/// The longest word that the system hands to a program.
+const LONGEST_WORD: usize = 131_071;
 
 impl Cases {
     pub fn programs(&mut self) {
@@ -96,6 +101,24 @@ impl Cases {
         let long = resized(of_letter("J"), 100_000);
         self.add_run("J, with 100,000 bytes", ProgramRun::judge("7", "4294967296", long));
         self.begins("refused 12\n");
+        let largest = image::of_table(&graphs::largest(&mut self.next_random()));
+        self.add_run("the largest image", ProgramRun::judge("0", "1", largest.clone()));
+        let longer = resized(largest, LONGEST_STREAM);
+        self.add_run("the largest image and a byte", ProgramRun::judge("0", "1", longer));
+        self.begins("refused 12\n");
+        for digits in [4_096, 4_097, 5_000, LONGEST_WORD] {
+            let name = format!("a word of {digits} digits");
+            let six = format!("{}6", "0".repeat(digits - 1));
+            self.add_run(&name, ProgramRun::judge("0", &six, of_letter("J")));
+            self.begins("superbubble 7\n");
+            let nines = "9".repeat(digits);
+            self.add_run(&name, ProgramRun::judge(&nines, &six, of_letter("J")));
+            self.begins("refused 13\n");
+            let letter = format!("{}x", "1".repeat(digits - 1));
+            let words = [&letter[..], "6"];
+            let run = ProgramRun::of_stream("judge", &words, of_letter("J"), Due::Usage);
+            self.add_run(&name, run);
+        }
         for _ in 0..8 {
             let stream = damaged_image(&mut self.next_random());
             self.add_run("a damaged image", ProgramRun::judge("0", "5000000000", stream));
@@ -154,13 +177,24 @@ impl Cases {
         self.add_run("J, IN and OUT are one", same);
         let same = ProgramRun::fold(1, "in.sbt", "in.sbt", file("in.sbt", of_letter("E")));
         self.add_run("E, IN and OUT are one", same);
-        let stopped = |letter, output| {
-            [file("in.sbt", of_letter(letter)), file(&under_way(output), vec![9; 200])].concat()
+        let left = |letter| {
+            [file("in.sbt", of_letter(letter)), file("gohardim-new-0123456789abcdef", vec![9; 200])]
+                .concat()
         };
-        let again = ProgramRun::fold(1, "in.sbt", "out.sbt", stopped("J", "out.sbt"));
+        let again = ProgramRun::fold(1, "in.sbt", "out.sbt", left("J"));
         self.add_run("J, after a stop", again);
-        let again = ProgramRun::fold(1, "in.sbt", "in.sbt", stopped("K", "in.sbt"));
+        let again = ProgramRun::fold(1, "in.sbt", "in.sbt", left("K"));
         self.add_run("K, IN and OUT are one, after a stop", again);
+        for digits in [4_096, 4_097, 5_000] {
+            let word = format!("{}1", "0".repeat(digits - 1));
+            let files = file("in.sbt", of_letter("K"));
+            let run = ProgramRun::fold_by_word(&word, 1, "in.sbt", "out.sbt", files);
+            self.add_run(format!("a budget of {digits} digits"), run);
+            self.begins("folded 1 left 1 edges 6\n");
+        }
+        let longest = "o".repeat(255);
+        let run = ProgramRun::fold(1, "in.sbt", &longest, file("in.sbt", of_letter("J")));
+        self.add_run("the longest name", run);
         let folders =
             [file("a/", vec![]), file("a/in", of_letter("J")), file("b/", vec![])].concat();
         self.add_run("J in another folder", ProgramRun::fold(1, "a/in", "b/out", folders));
@@ -169,6 +203,14 @@ impl Cases {
             let stream = image::of_table(&shape.relabelled(random).table(random));
             self.add_run("a large table", over(stream));
         }
+        let largest = image::of_table(&shapes::ladder().counted(7));
+        assert_eq!(largest.len(), image::LARGEST);
+        let files = file("in.sbt", largest.clone());
+        let run = ProgramRun::fold(0, "in.sbt", "out.sbt", files);
+        self.add_run("the largest image, copied", run);
+        self.begins("folded 0 left ");
+        self.add_run("the largest image and a byte", over(resized(largest, LONGEST_STREAM)));
+        self.begins("refused 12\n");
         for _ in 0..8 {
             let random = &mut self.next_random();
             let table = shapes::bubbly_acyclic(random, 60).table(random);
@@ -180,32 +222,51 @@ impl Cases {
 
     /// Where `fold` gives no answer, every file is as it was, and there is none more.
     fn files_left_alone(&mut self) {
-        let files = [file("in.sbt", of_letter("J")), file("out.sbt", vec![1, 2, 3])].concat();
-        for budget in ["", "a", "-1", "1x", "4294967296", "18446744073709551617"] {
-            let words = [budget, "in.sbt", "out.sbt"];
-            self.add_run("no budget", ProgramRun::fold_refusing(&words, files.clone()));
+        let files = [
+            file("folder/", vec![]),
+            file("in.sbt", of_letter("J")),
+            file("out.sbt", vec![1, 2, 3]),
+        ]
+        .concat();
+        let mut add = |name: &str, words: &[&str], due| {
+            self.add_run(name, ProgramRun::fold_refusing(words, files.clone(), due));
+        };
+        let nines = "9".repeat(5_000);
+        for budget in ["", "a", "-1", "1x", "4294967296", "18446744073709551617", &nines] {
+            add("no budget", &[budget, "in.sbt", "out.sbt"], Due::Usage);
         }
-        for words in [
-            &[][..],
-            &["1"],
-            &["1", "in.sbt"],
-            &["1", "in.sbt", "out.sbt", "more.sbt"],
-            &["1", "none.sbt", "out.sbt"],
-            &["1", "none.sbt", "none.sbt"],
-            &["1", "in.sbt", "none/out.sbt"],
+        for words in [&[][..], &["1"], &["1", "in.sbt"], &["1", "in.sbt", "out.sbt", "more.sbt"]] {
+            add("wrong words", words, Due::Usage);
+        }
+        let (long, longer) = ("n".repeat(256), "n/".repeat(2_049));
+        for (name, error) in [
+            ("none.sbt", NO_FILE),
+            ("", NO_FILE),
+            ("none/in.sbt", NO_FILE),
+            ("in.sbt/in.sbt", NO_FOLDER),
+            ("folder", IS_FOLDER),
+            (&long, TOO_LONG),
         ] {
-            self.add_run("wrong words", ProgramRun::fold_refusing(words, files.clone()));
+            add("no IN", &["1", name, "out.sbt"], Due::Message(unread(name, error)));
         }
-        let name = under_way("out.sbt");
-        let words = ["1", &name, "out.sbt"];
-        let files = file(&name, of_letter("J"));
-        self.add_run("IN is what a stop left", ProgramRun::fold_refusing(&words, files));
-        let words = ["1", "in.sbt", &name];
-        let files = file("in.sbt", of_letter("J"));
-        self.add_run("OUT has the other name's ending", ProgramRun::fold_refusing(&words, files));
-        let files = [file("folder/", vec![]), file("in.sbt", of_letter("J"))].concat();
-        let words = ["1", "in.sbt", "folder"];
-        self.add_run("OUT is a folder", ProgramRun::fold_refusing(&words, files));
+        add("no IN", &["1", "none.sbt", "none.sbt"], Due::Message(unread("none.sbt", NO_FILE)));
+        add("no IN", &["1", &longer, "out.sbt"], Due::Message(message("IN", TOO_LONG, "")));
+        let unseen = "OUT could not be looked at; ";
+        let unopened = "the folder of OUT could not be opened for reading; ";
+        let other = "OUT must be a plain file or a free name; ";
+        for (name, error, tried) in [
+            ("", NO_FILE, unseen),
+            ("in.sbt/out.sbt", NO_FOLDER, unseen),
+            (&long, TOO_LONG, unseen),
+            ("none/out.sbt", NO_FILE, unopened),
+            ("none/", NO_FILE, unopened),
+            ("folder", "it is a folder", other),
+            ("folder/", "it is a folder", other),
+            (".", "it is a folder", other),
+        ] {
+            add("no OUT", &["1", "in.sbt", name], Due::Message(message(name, error, tried)));
+        }
+        add("no OUT", &["1", "in.sbt", &longer], Due::Message(message("OUT", TOO_LONG, "")));
     }
 }
 

@@ -26,11 +26,11 @@ pub struct Run {
 }
 
 impl Run {
-    /// In words how the run ended, unless it ended as it should.
-    pub fn trouble(&self) -> Option<String> {
+    /// In words how the run ended, unless it ended with this status.
+    pub fn trouble(&self, due: i32) -> Option<String> {
         match &self.status {
-            Ok(0) => None,
-            Ok(status) => Some(format!("the run ended with status {status}: {}", self.errors)),
+            Ok(status) if *status == due => None,
+            Ok(status) => Some(format!("the status is {status}, due {due}: {}", self.errors)),
             Err(why) => Some(format!("the run {why}: {}", self.errors)),
         }
     }

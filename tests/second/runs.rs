@@ -1,10 +1,11 @@
 //! Runs of the programs `show`, `list`, `judge` and `fold`, one for each case, in a folder of its own:
 //! what a program is handed, what it must print, and which files it must leave.
 
-use crate::count::{difference, quoted, Fault};
+use crate::count::{difference, Fault};
 use crate::fold;
 use crate::image;
 use crate::programs::{self, Run, SHORT, WHOLE};
+use crate::sheet;
 use crate::superbubbles::way;
 use crate::table::{number_given, Table};
 use std::fs;
@@ -22,7 +23,7 @@ pub fn to_start(program: &str) -> (&'static [&'static str], Due) {
         "show" => (&["show"], refused()),
         "list" => (&["list"], refused()),
         "judge" => (&["judge", "0", "1"], refused()),
-        _ => (&["fold", "0", "none.sbt", "none.sbt"], Due::Message),
+        _ => (&["fold", "0", "none.sbt", "none.sbt"], Due::Message(unread("none.sbt", NO_FILE))),
     }
 }
 
@@ -40,18 +41,31 @@ pub struct ProgramRun {
     pub after: Files,
 }
 
-/// What a run must print.
+/// What a run must print, and with which status `gohardim` then ends.
 pub enum Due {
-    /// This text on standard output.
+    /// An answer or a refusal on standard output; beside a refusal its reason on standard error.
     Text(String),
-    /// A line that begins `usage:`, and no answer.
+    /// The one line that begins `usage:` and names the program.
     Usage,
-    /// Some words, and no answer.
-    Message,
+    /// No answer, and these words on standard error.
+    Message(String),
 }
 
-/// The words with which an answer begins.
-const ANSWERS: [&str; 6] = ["table", "superbubbles", "superbubble", "no", "folded", "refused"];
+/// The system's errors in words, as the programs say them.
+pub const NO_FILE: &str = "there is no such file or folder: look at the name";
+pub const IS_FOLDER: &str = "it is a folder: give the name of a file";
+pub const NO_FOLDER: &str = "a part of the name is a file where a folder must be";
+pub const TOO_LONG: &str = "the name is too long: give a shorter one";
+
+/// The message of a fold that leaves OUT as it was: what the system says of a name, and what was tried.
+pub fn message(name: &str, error: &str, tried: &str) -> String {
+    format!("{name}: {error}\nfold: {tried}OUT is as it was\n")
+}
+
+/// The message of a fold whose IN could not be read.
+pub fn unread(name: &str, error: &str) -> String {
+    message(name, error, "IN could not be read; ")
+}
 
 impl ProgramRun {
     /// A program that reads its standard input, and no file.
@@ -88,29 +102,44 @@ impl ProgramRun {
         ProgramRun::of_stream("judge", &[s, t], stream, due)
     }
 
-    /// `fold BUDGET IN OUT` with these files before. What an earlier stop left is gone after a fold.
+    /// `fold BUDGET IN OUT` with these files before. A file that an earlier stop left stays.
     pub fn fold(budget: u32, input: &str, output: &str, before: Files) -> ProgramRun {
+        ProgramRun::fold_by_word(&budget.to_string(), budget, input, output, before)
+    }
+
+    /// The same with a budget that is written in its own way.
+    pub fn fold_by_word(
+        word: &str,
+        budget: u32,
+        input: &str,
+        output: &str,
+        before: Files,
+    ) -> ProgramRun {
         let (_, stream) = before.iter().find(|(name, _)| name == input).unwrap();
         let (text, image) = folded_file(stream, budget);
         let mut after = before.clone();
         if let Some(image) = image {
-            after.retain(|(name, _)| name != output && *name != under_way(output));
+            after.retain(|(name, _)| name != output);
             after.push((output.to_string(), image));
         }
-        let words = [&budget.to_string(), input, output].map(str::to_string).to_vec();
+        let words = [word, input, output].map(str::to_string).to_vec();
         let due = Due::Text(text);
         ProgramRun { program: "fold", words, stream: vec![], piece: WHOLE, due, before, after }
     }
 
     /// `fold` with words to which it gives no answer, and which leave the files as they are.
-    pub fn fold_refusing(words: &[&str], files: Files) -> ProgramRun {
-        let run = ProgramRun::of_stream("fold", words, Vec::new(), Due::Message);
+    pub fn fold_refusing(words: &[&str], files: Files, due: Due) -> ProgramRun {
+        let run = ProgramRun::of_stream("fold", words, Vec::new(), due);
         ProgramRun { before: files.clone(), after: files, ..run }
     }
 
-    /// The program and its words, as they are typed.
+    /// The program and its words, as they are typed; long words are cut.
     pub fn command(&self) -> String {
-        let quote = |word: &String| if word.is_empty() { "''".to_string() } else { word.clone() };
+        let quote = |word: &String| match word.len() {
+            0 => "''".to_string(),
+            1..=60 => word.clone(),
+            length => format!("{}..{length} bytes", &word[..20]),
+        };
         let words = self.words.iter().map(quote);
         std::iter::once(self.program.to_string()).chain(words).collect::<Vec<_>>().join(" ")
     }
@@ -119,7 +148,7 @@ impl ProgramRun {
     pub fn text(&self) -> &str {
         match &self.due {
             Due::Text(text) => text,
-            Due::Usage | Due::Message => "",
+            Due::Usage | Due::Message(_) => "",
         }
     }
 
@@ -146,7 +175,7 @@ impl ProgramRun {
             std::iter::once(self.program).chain(self.words.iter().map(String::as_str)).collect();
         let run = programs::run(folder, &words, &self.stream, self.piece, SHORT);
         let left = files_in(folder, "")?;
-        Ok(run.trouble().or_else(|| self.due.fault(&run)).or_else(|| self.fault_of_files(&left)))
+        Ok(self.due.fault(self.program, &run).or_else(|| self.fault_of_files(&left)))
     }
 
     fn fault_of_files(&self, left: &Files) -> Fault {
@@ -164,23 +193,39 @@ impl ProgramRun {
 }
 
 impl Due {
-    pub fn fault(&self, run: &Run) -> Fault {
-        let answer = String::from_utf8_lossy(&run.output);
-        let said = format!("{answer}\n{}", run.errors);
-        let first_word = answer.split_whitespace().next().unwrap_or("");
-        let answered = ANSWERS.contains(&first_word);
-        match self {
-            Due::Text(text) => difference(text.as_bytes(), &run.output),
-            Due::Usage if !answered && said.lines().any(|line| line.starts_with("usage:")) => None,
-            Due::Message if !answered && !said.trim().is_empty() => None,
-            Due::Usage | Due::Message => Some(format!("it says {}", quoted(said.as_bytes()))),
-        }
+    pub fn fault(&self, program: &str, run: &Run) -> Fault {
+        let usage = format!("usage: {program} ");
+        let is_usage = run.output.starts_with(usage.as_bytes())
+            && run.output.iter().filter(|&&byte| byte == b'\n').count() == 1
+            && run.output.ends_with(b"\n");
+        let (output, errors): (&[u8], String) = match self {
+            Due::Text(text) => (text.as_bytes(), reason_beside(text)),
+            Due::Usage if is_usage => (&run.output, String::new()),
+            Due::Usage => (usage.as_bytes(), String::new()),
+            Due::Message(message) => (b"", message.clone()),
+        };
+        let said = run.errors.as_bytes();
+        run.trouble(status_of(output))
+            .or_else(|| difference(output, &run.output))
+            .or_else(|| difference(errors.as_bytes(), said).map(|fault| format!("stderr: {fault}")))
     }
 }
 
-/// The name under which `fold` writes before it is done.
-pub fn under_way(output: &str) -> String {
-    format!("{output}.fold-new")
+/// What stands on standard error beside an answer: a reason beside a refusal, else nothing.
+fn reason_beside(text: &str) -> String {
+    let number = text.strip_prefix("refused ").and_then(|rest| rest.trim_end().parse().ok());
+    number.map_or(String::new(), |number| format!("{}\n", sheet::reason(number)))
+}
+
+/// The status with which `gohardim` ends, by the first word that was printed.
+pub fn status_of(output: &[u8]) -> i32 {
+    let text = String::from_utf8_lossy(output);
+    match text.split_whitespace().next() {
+        None => 3,
+        Some("refused") => 1,
+        Some("usage:") => 2,
+        Some(_) => 0,
+    }
 }
 
 /// All files below a folder, with their names from there on.

@@ -50,7 +50,7 @@ fn read_body(head: &[u8; 5], body: &mut [u8]) -> Case
     if length > body.len() {
         return cut_off();
     }
-    let came = files::read(libc::STDIN_FILENO, &mut body[..length]);
+    let came = files::read(libc::STDIN_FILENO, body, length);
     if came.error != 0 || came.count < length {
         return cut_off();
     }
@@ -66,7 +66,7 @@ fn next_case(body: &mut [u8]) -> Case
     ensures { λ r. ⌜ r .length ≤ length (now (body .exit)) ⌝ }
 {
     let mut head = [0u8; 5];
-    let came = files::read(libc::STDIN_FILENO, &mut head);
+    let came = files::read(libc::STDIN_FILENO, &mut head, 5);
     if came.error != 0 {
         return cut_off();
     }

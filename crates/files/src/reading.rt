@@ -1,4 +1,4 @@
-// An input, read to its end or until the slice is full.
+// An input, read to its end.
 ghost use Prim.Native.Nat.{_≤_};
 ghost use mathlib.Core.Path.{_≡_};
 ghost use lib.ListN.{length};
@@ -30,13 +30,21 @@ fn read_once(fd: i32, rest: &mut [u8]) -> Input
     Input { error: 0, count }
 }
 
-// Reads an open file or stream. A call that fails is an error, whatever came before it: it is not the end.
-pub fn read(fd: i32, stream: &mut [u8]) -> Input
+// The smaller of two lengths.
+fn least(a: usize, b: usize) -> usize
+    ensures { λ r. ⌜ r ≤ b ⌝ }
+{
+    if a < b { a } else { b }
+}
+
+// Reads an open file or stream to its end, or until so many bytes came as are asked for or as the slice holds. A call that fails is an error, whatever came before it: it is not the end.
+pub fn read(fd: i32, stream: &mut [u8], most: usize) -> Input
     ensures { λ r. ⌜ Counts (r .count) (now (stream .exit)) ⌝ }
 {
+    let end = least(most, stream.len());
     let mut done = 0;
-    while done < stream.len() {
-        let more = read_once(fd, &mut stream[done..]);
+    while done < end {
+        let more = read_once(fd, &mut stream[done..end]);
         if more.error != 0 {
             return failed(more.error);
         }
@@ -51,15 +59,15 @@ pub fn read(fd: i32, stream: &mut [u8]) -> Input
     }
 }
 
-// Reads the file of a name, and closes it.
-pub fn read_file(name: &[u8], stream: &mut [u8]) -> Input
+// Reads the file of a name in the same way, and closes it.
+pub fn read_file(name: &[u8], stream: &mut [u8], most: usize) -> Input
     ensures { λ r. ⌜ Counts (r .count) (now (stream .exit)) ⌝ }
 {
     let fd = os::open_read(name);
     if fd < 0 {
         return failed(last());
     }
-    let input = read(fd, stream);
+    let input = read(fd, stream, most);
     libc::close(fd);
     input
 }

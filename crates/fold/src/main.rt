@@ -72,21 +72,20 @@ fn fold_stream(stream: &[u8], budget: u32, to: &[u8]) {
     print_replaced(replaced, outcome, to);
 }
 
-// Reads IN, folds its table, and writes OUT.
-fn fold_file(budget: u32, from: &[u8], to: &[u8]) {
-    let mut stream = [0u8; MOST];
-    let input = files::read_file(from, &mut stream);
+// Reads IN into the room, folds its table, and writes OUT.
+fn fold_file(budget: u32, from: &[u8], to: &[u8], room: &mut [u8]) {
+    let input = files::read_file(from, room, MOST);
     if input.error != 0 {
         files::say_reason(from, input.error);
         files::say_state(b"fold", b"IN could not be read; OUT is as it was");
         return;
     }
     let count = input.count;
-    fold_stream(&stream[..count], budget, to);
+    fold_stream(&room[..count], budget, to);
 }
 
-// Takes the two names from the words and folds.
-fn fold_named(budget: u32) {
+// Takes the two names from the words and folds, with the room that the budget stood in.
+fn fold_named(budget: u32, room: &mut [u8]) {
     let mut from = io::buffer();
     let from_length = os::arg(2, &mut from);
     if os::errno() != 0 {
@@ -101,7 +100,7 @@ fn fold_named(budget: u32) {
         files::say_state(b"fold", b"OUT is as it was");
         return;
     }
-    fold_file(budget, &from[..from_length], &to[..to_length]);
+    fold_file(budget, &from[..from_length], &to[..to_length], room);
 }
 
 // Says how the program is called.
@@ -127,9 +126,10 @@ fn main() {
         usage();
         return;
     }
-    let Numeral::Is(budget) = words::number(1) else {
+    let mut room = [0u8; words::LONGEST];
+    let Numeral::Is(budget) = words::number(1, &mut room) else {
         usage();
         return;
     };
-    fold_named(budget);
+    fold_named(budget, &mut room);
 }

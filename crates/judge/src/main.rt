@@ -13,8 +13,9 @@ enum Vertex {
 }
 
 // The vertex that word i says. A number that is too large for 32 bits is the largest of them, which is no vertex either.
-fn argument(i: usize) -> Vertex {
-    match words::number(i) {
+fn argument(i: usize, room: &mut [u8]) -> Vertex {
+    let numeral = words::number(i, room);
+    match numeral {
         Numeral::Is(v) => Vertex::Number(v),
         Numeral::TooLarge => Vertex::Number(4_294_967_295),
         Numeral::Wrong => Vertex::Wrong,
@@ -60,10 +61,9 @@ fn image_line(
     answer_line(out, &starts[..n + 1], &targets[..m], s, t)
 }
 
-// Reads the image on standard input and prints the answer.
-fn judge_input(s: u32, t: u32) {
-    let mut stream = [0u8; MOST];
-    let input = files::read(libc::STDIN_FILENO, &mut stream);
+// Reads the image on standard input into the room that the words stood in, and prints the answer.
+fn judge_input(s: u32, t: u32, room: &mut [u8]) {
+    let input = files::read(libc::STDIN_FILENO, room, MOST);
     if input.error != 0 {
         files::unread_input(input.error);
         return;
@@ -75,7 +75,7 @@ fn judge_input(s: u32, t: u32) {
     let mut out = io::buffer();
     let answer = image_line(
         &mut out,
-        &stream[..count],
+        &room[..count],
         &mut starts,
         &mut targets,
         &mut counts,
@@ -99,13 +99,14 @@ fn main() {
         usage();
         return;
     }
-    let Vertex::Number(s) = argument(1) else {
+    let mut room = [0u8; words::LONGEST];
+    let Vertex::Number(s) = argument(1, &mut room) else {
         usage();
         return;
     };
-    let Vertex::Number(t) = argument(2) else {
+    let Vertex::Number(t) = argument(2, &mut room) else {
         usage();
         return;
     };
-    judge_input(s, t);
+    judge_input(s, t, &mut room);
 }

@@ -68,7 +68,7 @@ fn image_lines(
 // Reads the image on standard input and prints the list of its table.
 fn list_input() {
     let mut stream = [0u8; MOST];
-    let input = files::read(libc::STDIN_FILENO, &mut stream);
+    let input = files::read(libc::STDIN_FILENO, &mut stream, MOST);
     if input.error != 0 {
         files::unread_input(input.error);
         return;

@@ -44,7 +44,8 @@ pub fn reason(number: u32) {
         10 => say(b"the image is shorter than 13 bytes, or does not begin with S B T\n"),
         11 => say(b"the image has another version than 1\n"),
         12 => say(b"the image is longer or shorter than its header says\n"),
-        _ => say(b"the table does not have a vertex that was asked for\n"),
+        13 => say(b"the table does not have a vertex that was asked for\n"),
+        _ => say(b"there are no words for this number\n"),
     }
 }
 

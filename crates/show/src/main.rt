@@ -6,7 +6,7 @@ const MOST: usize = image::Header::LARGEST + 1;
 // Reads the image on standard input and prints its table.
 fn show_input() {
     let mut stream = [0u8; MOST];
-    let input = files::read(libc::STDIN_FILENO, &mut stream);
+    let input = files::read(libc::STDIN_FILENO, &mut stream, MOST);
     if input.error != 0 {
         files::unread_input(input.error);
         return;

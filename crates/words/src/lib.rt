@@ -3,8 +3,8 @@ ghost use Prim.Native.Nat.{_+_, _-_, _*_, _≤_, min};
 ghost use mathlib.Core.Path.{_≡_};
 ghost use Rattle.words.specs.Decimal.{Says};
 
-// The longest word that the system hands to a program for x86-64, and one byte more.
-const LONGEST: usize = 131_072;
+// The room that any word fits: the longest that the system hands to a program for x86-64, and one byte more.
+pub const LONGEST: usize = 131_072;
 
 // What a word says where a number is due.
 pub enum Numeral {
@@ -52,9 +52,8 @@ pub fn parse(word: &[u8]) -> Numeral
     Numeral::Is(value as u32)
 }
 
-// What word i says, the program's own name being word 0. A longer one than the system hands over says nothing.
-pub fn number(i: usize) -> Numeral {
-    let mut word = [0u8; LONGEST];
-    let count = os::arg(i, &mut word);
-    parse(&word[..count])
+// What word i says, the program's own name being word 0. It is taken into the room that is lent; a word that is longer says nothing.
+pub fn number(i: usize, room: &mut [u8]) -> Numeral {
+    let count = os::arg(i, room);
+    parse(&room[..count])
 }

@@ -8,10 +8,13 @@ use Rattle.files.proofs.reading.read.Statement.{statement}
 use Rattle.files.proofs.reading.read.Tie as tie
 
 abbrev Inv-loop : tie.InvT-loop
-Inv-loop fd stream₀ done₀ stream done = (done ≤ length stream) × (length stream ≡ length stream₀)
+Inv-loop fd stream₀ most end done₀ stream done = (done ≤ end) × (length stream ≡ length stream₀)
 
 abbrev μ-loop : tie.MeasureT-loop
-μ-loop fd stream₀ done₀ stream done = length stream - done
+μ-loop fd stream₀ most end done₀ stream done = end - done
+
+least-requires : tie.Need-least-requires Inv-loop μ-loop
+least-requires c κs = search needs
 
 loop-holds : tie.Need-loop-holds Inv-loop μ-loop
 loop-holds c = search needs
@@ -64,6 +67,7 @@ read-spec =
     (tie.spec
     Inv-loop
     μ-loop
+    least-requires
     loop-holds
     sub-read-once
     part-read-once-start

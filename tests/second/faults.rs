@@ -1,0 +1,114 @@
+//! What may befall the programs from outside: a fold is stopped at any of its system calls, two run
+//! at once, calls fail, standard streams are closed or full, and OUT is a file of any kind.
+//! Whatever comes, OUT is whole, old or new, and what is printed is true.
+
+use crate::checks::{check, demand, judge_all, judge_in_turn, Check, Judged};
+use crate::count::Count;
+use crate::failures;
+use crate::folders::FOLDERS;
+use crate::kinds;
+use crate::programs::{self, LONG, WHOLE};
+use crate::readers;
+use crate::scene::{Rehearsed, Scene};
+use crate::stops;
+use crate::story::Step;
+use crate::streams;
+use crate::traced::CAN_TRACE;
+use std::error::Error;
+use std::fs;
+use std::path::Path;
+
+/// Tries all. Many programs are started, which is the quicker the less memory this one has.
+pub fn check_all(count: &mut Count) {
+    if !CAN_TRACE {
+        println!("faults: left out, since a program in an emulator cannot be traced");
+        return;
+    }
+    let _ = fs::remove_dir_all(FOLDERS);
+    for tried in [of_fold(count), of_readers(count)] {
+        if let Err(error) = tried {
+            count.judge("what may befall the programs", Some(error.to_string()));
+        }
+    }
+    let _ = fs::remove_dir_all(FOLDERS);
+}
+
+fn of_fold(count: &mut Count) -> Judged {
+    let program = &words_of("fold")?;
+    let scenes = [
+        Scene::out_is_missing(program),
+        Scene::out_is_old(program),
+        Scene::in_is_out(program),
+        Scene::after_a_stop(program),
+        Scene::refused(program),
+    ];
+    let [missing, old, same, stopped, refused] = scenes.clone().map(Scene::rehearsed);
+    let all = [&missing?, &old?, &same?, &stopped?, &refused?];
+    let [missing, old, same, _, refused] = all;
+    let failing = [missing, old, same, refused];
+
+    judge_all("folds that nothing befalls", for_each(&all, unhindered), count);
+    judge_all("folds that are killed, and run again", for_each(&all, stops::kills), count);
+    judge_all("folds whose new name is taken", for_each(&[old], stops::name_taken), count);
+    let mut two = stops::two_at_once(missing, 1);
+    two.extend(stops::two_at_once(old, 2));
+    two.extend(stops::two_at_once(same, 1));
+    judge_all("folds that are stopped while another one runs", two, count);
+    judge_all("folds of which a call fails", for_each(&failing, failures::all), count);
+    let in_pieces = for_each(&failing, failures::in_pieces);
+    judge_all("folds whose reads and writes are cut short", in_pieces, count);
+    judge_all("folds with closed streams", streams::closed(&scenes[1..3]), count);
+    judge_in_turn("folds that cannot print", streams::unwritable(&scenes), count);
+    judge_all("kinds of OUT that are left alone", kinds::left_alone(program), count);
+    judge_all("names of OUT that are written", kinds::written(program), count);
+    judge_all("rights of OUT", kinds::rights(program)?, count);
+    Ok(())
+}
+
+/// The tests of one kind for each of these folds.
+fn for_each<'a>(
+    folds: &[&'a Rehearsed<'a>],
+    tests: fn(&'a Rehearsed<'a>) -> Vec<Check<'a>>,
+) -> Vec<Check<'a>> {
+    folds.iter().flat_map(|&fold| tests(fold)).collect()
+}
+
+/// The answer, the files and the order of the calls, and that every step is there which is tried.
+fn unhindered<'a>(fold: &'a Rehearsed<'a>) -> Vec<Check<'a>> {
+    let answer = check(format!("fold, {}", fold.scene.name), move || {
+        fold.scene.demand_answer(&fold.scene.laid_out()?)
+    });
+    let steps = check(format!("fold, {}, its steps", fold.scene.name), move || {
+        let missing: Vec<Step> =
+            fold.steps_due().into_iter().filter(|&step| !fold.has(step)).collect();
+        demand(missing.is_empty(), || format!("there is no {missing:?}"))
+    });
+    vec![answer, steps]
+}
+
+fn of_readers(count: &mut Count) -> Judged {
+    let [show, list, judge] = ["show", "list", "judge"].map(words_of);
+    let [show, list, judge] = [&show?, &list?, &judge?];
+    let readers = readers::all(show, list, judge);
+    let unhindered = readers.iter().map(|reader| reader.unhindered()).collect();
+    judge_all("runs of show, list and judge that nothing befalls", unhindered, count);
+    let mut failures = Vec::new();
+    for reader in &readers {
+        failures.extend(reader.failures()?);
+    }
+    judge_all("runs of show, list and judge of which a call fails", failures, count);
+    let in_pieces = readers.iter().flat_map(|reader| reader.in_pieces()).collect();
+    judge_all("runs whose reads and writes are cut short", in_pieces, count);
+    let without = readers.iter().flat_map(|reader| reader.without_streams()).collect();
+    judge_in_turn("runs that cannot read or print", without, count);
+    Ok(())
+}
+
+/// The words with which a program is started without the script `gohardim`.
+fn words_of(program: &str) -> Result<Vec<String>, Box<dyn Error>> {
+    let run = programs::run(Path::new("."), &["where", program], &[], WHOLE, LONG);
+    if run.status != Ok(0) {
+        return Err(format!("gohardim where {program}: {:?}, {}", run.status, run.errors).into());
+    }
+    Ok(String::from_utf8(run.output)?.lines().map(str::to_string).collect())
+}

@@ -1,0 +1,193 @@
+//! `show`, `list` and `judge` where a read or a write fails or is cut short: no answer is made of
+//! what could not be read, and nothing is printed after what could not be written.
+
+use crate::calls::Deed;
+use crate::checks::{check, demand, demand_none, Check, Judged};
+use crate::count::{difference, quoted};
+use crate::failures::ERRORS;
+use crate::graphs;
+use crate::image;
+use crate::outcome::demand_ended;
+use crate::random::Random;
+use crate::runs::ProgramRun;
+use crate::shapes;
+use crate::streams::{SIGPIPE, UNWRITABLE};
+use crate::traced::{self, nothing, only, Action, End, Ended, Plan, Start, Stream};
+use std::error::Error;
+use std::io;
+
+const NOT_READ: &str = "standard input could not be read";
+const NOT_WRITTEN: &str = "standard output could not be written";
+
+/// A large image is read in pieces of so many bytes at the most, so that there are some.
+const PIECE: u64 = 20_000;
+
+/// A program that reads its standard input, and what it must print.
+pub struct Reader<'a> {
+    title: String,
+    /// The program, by its words.
+    program: &'a [String],
+    run: ProgramRun,
+    /// How many reads and how many writes there are at least.
+    least: [usize; 2],
+}
+
+/// The programs with a large table, and without one.
+pub fn all<'a>(show: &'a [String], list: &'a [String], judge: &'a [String]) -> Vec<Reader<'a>> {
+    let largest = image::of_table(&graphs::largest(&mut Random::of_case(1, 0)));
+    let chain = image::of_table(&shapes::chain(2_048).counted(1));
+    let fan = image::of_table(&shapes::fan(2_048).counted(1));
+    let of = |program, run: ProgramRun, least| {
+        let title = format!("{} with {} bytes", run.command(), run.stream.len());
+        Reader { title, program, run, least }
+    };
+    vec![
+        of(show, ProgramRun::show(largest), [4, 10]),
+        of(list, ProgramRun::list(chain), [3, 3]),
+        of(judge, ProgramRun::judge("0", "1", fan), [4, 1]),
+        of(show, ProgramRun::show(Vec::new()), [1, 1]),
+        of(list, ProgramRun::list(Vec::new()), [1, 1]),
+        of(judge, ProgramRun::judge("0", "1", Vec::new()), [1, 1]),
+    ]
+}
+
+impl Reader<'_> {
+    fn run(&self, streams: [Stream; 3], plan: Plan) -> io::Result<Ended> {
+        let start = Start {
+            words: [self.program, &self.run.words].concat(),
+            folder: ".".into(),
+            input: self.run.stream.clone(),
+            streams,
+            umask: 0o022,
+        };
+        traced::run(&start, &mut |place, call| match (plan(place, call), call.deed()) {
+            (Action::Do, Deed::Read(0)) => Action::Shorten(PIECE),
+            (action, _) => action,
+        })
+    }
+
+    fn due(&self) -> &[u8] {
+        self.run.text().as_bytes()
+    }
+
+    fn demand_answer(&self, ended: &Ended) -> Judged {
+        demand_ended(ended)?;
+        demand_none(difference(self.due(), &ended.output))?;
+        let is_refused = self.due().starts_with(b"refused");
+        demand(is_refused || ended.errors.is_empty(), || format!("it says {:?}", ended.errors))
+    }
+
+    /// The calls of a run that nothing befalls must be enough to try something.
+    pub fn unhindered(&self) -> Check<'_> {
+        check(format!("{}, and nothing fails", self.title), move || {
+            let ended = self.run(KEPT, &mut nothing)?;
+            let many = |deed| ended.calls.iter().filter(|call| call.deed() == deed).count();
+            let counts = [many(Deed::Read(0)), many(Deed::Write(1))];
+            let enough = counts.iter().zip(self.least).all(|(&count, least)| count >= least);
+            demand(enough, || format!("so many reads and writes are too few: {counts:?}"))?;
+            self.demand_answer(&ended)
+        })
+    }
+
+    /// Each read and each write fails once.
+    pub fn failures(&self) -> Result<Vec<Check<'_>>, Box<dyn Error>> {
+        let mut checks = Vec::new();
+        let ended = self.run(KEPT, &mut nothing)?;
+        demand_ended(&ended)?;
+        for (place, call) in ended.calls.iter().enumerate() {
+            let deed = call.deed();
+            if ![Deed::Read(0), Deed::Write(1), Deed::Write(2)].contains(&deed) {
+                continue;
+            }
+            let title = format!("{}, call {place}, {}", self.title, call.name());
+            let ways = ERRORS.map(|error| [Action::Fail(error), Action::DoAndFail(error)]);
+            for action in ways.concat() {
+                checks.push(check(format!("{title}: {action:?}"), move || {
+                    self.failed(place, deed, action)
+                }));
+            }
+        }
+        Ok(checks)
+    }
+
+    fn failed(&self, place: usize, deed: Deed, action: Action) -> Judged {
+        let ended = self.run(KEPT, &mut only(place, action))?;
+        demand_ended(&ended)?;
+        let is_same = ended.calls.get(place).is_some_and(|call| call.deed() == deed);
+        demand(is_same, || "the call is another one than before".to_string())?;
+        match deed {
+            Deed::Read(_) => demand_not_read(&ended),
+            Deed::Write(1) => self.demand_stopped(&ended, place, action),
+            // only the reason of a refusal is not said
+            _ => demand_none(difference(self.due(), &ended.output)),
+        }
+    }
+
+    /// What was printed before a place stands there, and nothing is printed after it.
+    fn demand_stopped(&self, ended: &Ended, place: usize, action: Action) -> Judged {
+        let is_print = |at: &usize| ended.calls[*at].deed() == Deed::Write(1);
+        let before = (0..place).filter(is_print).filter_map(|at| ended.calls[at].answer);
+        let mut printed = before.sum::<i64>() as usize;
+        if let Action::DoAndFail(_) = action {
+            printed += ended.calls[place].arguments[2] as usize;
+        }
+        let due = self.due().get(..printed).ok_or("it prints too much")?;
+        demand_none(difference(due, &ended.output))?;
+        let more = (place + 1..ended.calls.len()).filter(is_print).count();
+        demand(more == 0, || "it prints on".to_string())?;
+        demand_not_written(ended)
+    }
+
+    /// Every read and every write is cut to so many bytes: they must be gone on with.
+    pub fn in_pieces(&self) -> Vec<Check<'_>> {
+        let title = |most| format!("{}, in pieces of {most}", self.title);
+        [57, 1_000].map(|most| check(title(most), move || self.cut(most))).into()
+    }
+
+    fn cut(&self, most: u64) -> Judged {
+        let ended = self.run(KEPT, &mut |_, call| match call.deed() {
+            Deed::Read(0) | Deed::Write(_) => Action::Shorten(most),
+            _ => Action::Do,
+        })?;
+        self.demand_answer(&ended)
+    }
+
+    /// Standard input that gives nothing, and standard output that takes nothing.
+    pub fn without_streams(&self) -> Vec<Check<'_>> {
+        let mut checks = Vec::new();
+        for (stream, name) in [(Stream::Closed, "closed"), (Stream::Folder, "a folder")] {
+            checks.push(check(format!("{}, standard input is {name}", self.title), move || {
+                let streams = [stream, Stream::Kept, Stream::Kept];
+                demand_not_read(&self.run(streams, &mut nothing)?)
+            }));
+        }
+        for &(stream, name) in UNWRITABLE.iter().chain(&[(Stream::Closed, "closed")]) {
+            checks.push(check(format!("{}, standard output is {name}", self.title), move || {
+                let streams = [Stream::Kept, stream, Stream::Kept];
+                let ended = self.run(streams, &mut nothing)?;
+                if stream == Stream::Gone && ended.end == End::Signal(SIGPIPE) {
+                    return Ok(());
+                }
+                demand_not_written(&ended)
+            }));
+        }
+        checks
+    }
+}
+
+const KEPT: [Stream; 3] = [Stream::Kept; 3];
+
+fn demand_not_read(ended: &Ended) -> Judged {
+    demand_none(difference(b"", &ended.output))?;
+    demand_said_once(ended, NOT_READ)
+}
+
+fn demand_not_written(ended: &Ended) -> Judged {
+    demand_said_once(ended, NOT_WRITTEN)
+}
+
+fn demand_said_once(ended: &Ended, words: &str) -> Judged {
+    demand_ended(ended)?;
+    let once = ended.errors.matches(words).count() == 1;
+    demand(once, || format!("it says {}", quoted(ended.errors.as_bytes())))
+}

@@ -1,0 +1,12 @@
+//! The words of the sheet: the reason beside each number, as the table in docs/SHEET.md has it.
+
+const SHEET: &str = include_str!("../../docs/SHEET.md");
+
+/// The reason for which a program refuses by this number.
+pub fn reason(number: u32) -> &'static str {
+    let row = format!("| {number} | ");
+    let mut reasons = SHEET.lines().filter_map(|line| line.strip_prefix(&row)?.strip_suffix(" |"));
+    let reason = reasons.next().unwrap_or_else(|| panic!("docs/SHEET.md has no reason {number}"));
+    assert!(reasons.next().is_none(), "docs/SHEET.md has two reasons {number}");
+    reason
+}
