@@ -6,6 +6,7 @@ use crate::batch::{self, Printed};
 use crate::cases::{self, Asked, Case};
 use crate::count::{difference, quoted, Count};
 use crate::examples;
+use crate::faults;
 use crate::fold::Folded;
 use crate::fold_cases;
 use crate::image::Room;
@@ -24,10 +25,11 @@ const RUNS: &str = "tests/build/runs";
 
 /// Compares all and prints the count as the last line. True where nothing failed.
 pub fn compare(seed: u64) -> bool {
+    let mut count = Count::default();
+    faults::check_all(&mut count);
     let cases = cases::all(seed);
     let answers = cases::answers(&cases);
     println!("seed {seed}, {} cases", cases.len());
-    let mut count = Count::default();
     self_test::check(&cases, &answers, seed, &mut count);
     count.judge_all(examples::check(Path::new("examples")));
     launcher_refuses(&mut count);
@@ -40,12 +42,18 @@ pub fn compare(seed: u64) -> bool {
     if operations::COMPARED.contains(&"fold") {
         fold_in_turn(seed, &mut count);
     }
-    for program in runs::COMPARED {
-        run_program(program, &compared, &mut count);
-    }
+    run_programs(&cases, &mut count);
     if count.has_failed() {
         println!("a case alone: tests/build/second question NUMBER {seed} | ./gohardim PROGRAM");
     }
+    count.print()
+}
+
+/// Compares what is run alone, and no more: for wrong versions of the programs.
+pub fn programs(seed: u64) -> bool {
+    let mut count = Count::default();
+    faults::check_all(&mut count);
+    run_programs(&cases::all(seed), &mut count);
     count.print()
 }
 
@@ -106,11 +114,17 @@ fn fold_by_batch(questions: &[(&Table, u32)]) -> Vec<Result<Folded, String>> {
 
 // ---- the programs that are run alone
 
-fn run_program(program: &str, compared: &[(&Case, &Vec<u8>)], count: &mut Count) {
-    let runs: Vec<(&Case, &ProgramRun)> = compared
+fn run_programs(cases: &[Case], count: &mut Count) {
+    for program in runs::COMPARED {
+        run_program(program, cases, count);
+    }
+}
+
+fn run_program(program: &str, cases: &[Case], count: &mut Count) {
+    let runs: Vec<(&Case, &ProgramRun)> = cases
         .iter()
-        .filter_map(|(case, _)| match &case.asked {
-            Asked::Program(run) if run.program == program => Some((*case, run)),
+        .filter_map(|case| match &case.asked {
+            Asked::Program(run) if run.program == program => Some((case, run)),
             _ => None,
         })
         .collect();

@@ -10,36 +10,52 @@
 //! - operations.rs, answers.rs, runs.rs, turns.rs: how it is asked, and the answers that are due
 //! - programs.rs, batch.rs, parallel.rs: the runs of the programs
 //! - sheet.rs: the words of the sheet that the programs say
+//! - faults.rs, stops.rs, failures.rs, streams.rs, kinds.rs, readers.rs: what may befall the programs
+//! - traced.rs, calls.rs, story.rs, scene.rs, outcome.rs, folders.rs, checks.rs: how that is done,
+//!   and what is held against it
 //! - compare.rs, self_test.rs, coverage.rs, examples.rs, count.rs: the comparison, and the checks that
 //!   need no program
 
 mod answers;
 mod batch;
+mod calls;
 mod cases;
+mod checks;
 mod compare;
 mod count;
 mod coverage;
 mod damages;
 mod definition;
 mod examples;
+mod failures;
+mod faults;
 mod fold;
 mod fold_cases;
+mod folders;
 mod graphs;
 mod image;
+mod kinds;
 mod limits;
 mod operations;
+mod outcome;
 mod parallel;
 mod program_cases;
 mod programs;
 mod quick;
 mod random;
+mod readers;
 mod runs;
+mod scene;
 mod self_test;
 mod shapes;
 mod sheet;
+mod stops;
+mod story;
+mod streams;
 mod superbubble_cases;
 mod superbubbles;
 mod table;
+mod traced;
 mod turns;
 mod worked;
 
@@ -50,6 +66,7 @@ use std::process::ExitCode;
 
 const USAGE: &str = "usage:
   second compare [SEED]            compare the programs on every case; the last line is the count
+  second programs                  the part of it that needs no batch
   second self-test [SEED]          try the second program alone, as `compare` does as well
   second question NUMBER [SEED]    write what a program is handed for one case
   second examples FOLDER           write the twelve graphs A to L as images
@@ -61,6 +78,7 @@ fn main() -> ExitCode {
     let done = match words[..] {
         ["compare"] => compare::compare(1),
         ["compare", seed] => seed.parse().map_or_else(|_| usage(), compare::compare),
+        ["programs"] => compare::programs(1),
         ["self-test"] => self_test(1),
         ["self-test", seed] => seed.parse().map_or_else(|_| usage(), self_test),
         ["question", number] => question(number, "1"),

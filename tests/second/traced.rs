@@ -162,8 +162,8 @@ impl Traced {
             .stderr(streams[2].opened(kept[2])?);
         unsafe {
             command.pre_exec(move || {
-                for number in 0..3 {
-                    if streams[number] == Stream::Closed {
+                for (number, &stream) in streams.iter().enumerate() {
+                    if stream == Stream::Closed {
                         close(number as c_int);
                     }
                 }

@@ -4,7 +4,7 @@ ghost use lib.ListN.{length};
 ghost use Rattle.libc.specs.Io.{Ended};
 use crate::errors::last;
 
-// The rights and the owner of a plain file.
+// The nine rights of a plain file, and its owner.
 pub struct Old {
     pub rights: u32,
     pub owner: u32,
@@ -40,7 +40,7 @@ fn kind_of(path: &[u8; libc::PATH_MAX], mode: u32, owner: u32, group: u32) -> Fo
         return Found::Protected(last());
     }
     Found::Plain(Old {
-        rights: mode % 4096,
+        rights: mode % 512,
         owner,
         group,
     })
