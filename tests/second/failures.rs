@@ -2,10 +2,11 @@
 //! true of each other. And one whose reads and writes are cut short, which nobody may notice.
 
 use crate::calls::{Call, Deed};
-use crate::checks::{check, demand, Check, Judged};
-use crate::count::quoted;
+use crate::checks::{check, demand, demand_none, Check, Judged};
+use crate::count::{difference, quoted};
 use crate::folders::demand_same;
-use crate::outcome::{demand_ended, said, Due, Found, Said, State};
+use crate::messages;
+use crate::outcome::{demand_ended, said, Found, Said, State};
 use crate::scene::Rehearsed;
 use crate::story::Step::{self, *};
 use crate::traced::{Action, Ended};
@@ -99,7 +100,7 @@ impl Failure {
         let found = due.found(folder.files()?)?;
         let most = if self.with == With::NoRemoval { 1 } else { 0 };
         demand(found.left.len() <= most, || format!("it left {:?}", found.left))?;
-        self.demand_truth(due, &ended, &found)
+        self.demand_truth(fold, &ended, &found)
     }
 
     /// The place of the call that fails.
@@ -123,8 +124,8 @@ impl Failure {
         }
     }
 
-    fn demand_truth(self, due: &Due, ended: &Ended, found: &Found) -> Judged {
-        let state = found.state;
+    fn demand_truth(self, fold: &Rehearsed, ended: &Ended, found: &Found) -> Judged {
+        let (due, state) = (&fold.due, found.state);
         let answered = ended.output == due.text.as_bytes();
         let printed = || format!("OUT is {state:?}, and it prints {}", quoted(&ended.output));
         demand(due.text.as_bytes().starts_with(&ended.output), printed)?;
@@ -138,7 +139,21 @@ impl Failure {
             Said::TheNewTable => state == State::New,
             Said::OldOrNew => self.step == Rename,
         };
-        demand(is_true, || format!("OUT is {state:?}, and it says {:?}", ended.errors))
+        demand(is_true, || format!("OUT is {state:?}, and it says {:?}", ended.errors))?;
+        demand_none(difference(self.message(fold).as_bytes(), ended.errors.as_bytes()))
+    }
+
+    /// What it says.
+    fn message(self, fold: &Rehearsed) -> String {
+        if self.step == Print {
+            return messages::unprinted(fold.due.is_refused());
+        }
+        let error = match self.action {
+            Action::Fail(error) | Action::DoAndFail(error) => error,
+            // that a write takes nothing is no error of the system's
+            _ => EIO,
+        };
+        messages::of_step(self.step, error, fold.scene.input, &fold.scene.output)
     }
 
     /// Whether some of the answer is printed although its print fails.
@@ -155,6 +170,21 @@ impl Failure {
             || matches!(self.action, Action::Shorten(_))
     }
 }
+
+// ---- each error of the system
+
+/// IN cannot be opened, for each reason that there is.
+pub fn reasons<'a>(fold: &'a Rehearsed<'a>) -> Vec<Check<'a>> {
+    let place = fold.steps.iter().position(|&step| step == OpenIn);
+    let failure = |error| {
+        let (action, with) = (Action::Fail(error), With::Nothing);
+        Some(Failure { place: place?, step: OpenIn, action, with }.check(fold))
+    };
+    (1..=LAST_ERROR).filter_map(failure).collect()
+}
+
+/// The largest number of an error.
+const LAST_ERROR: i64 = 133;
 
 // ---- all reads and writes are cut short
 

@@ -10,6 +10,7 @@ use crate::kinds;
 use crate::programs::{self, LONG, WHOLE};
 use crate::readers;
 use crate::scene::{Rehearsed, Scene};
+use crate::stack;
 use crate::stops;
 use crate::story::Step;
 use crate::streams;
@@ -25,7 +26,7 @@ pub fn check_all(count: &mut Count) {
         return;
     }
     let _ = fs::remove_dir_all(FOLDERS);
-    for tried in [of_fold(count), of_readers(count)] {
+    for tried in [of_fold(count), of_readers(count), of_stack(count)] {
         if let Err(error) = tried {
             count.judge("what may befall the programs", Some(error.to_string()));
         }
@@ -55,6 +56,7 @@ fn of_fold(count: &mut Count) -> Judged {
     two.extend(stops::two_at_once(same, 1));
     judge_all("folds that are stopped while another one runs", two, count);
     judge_all("folds of which a call fails", for_each(&failing, failures::all), count);
+    judge_all("reasons why IN cannot be opened", failures::reasons(missing), count);
     let in_pieces = for_each(&failing, failures::in_pieces);
     judge_all("folds whose reads and writes are cut short", in_pieces, count);
     judge_all("folds with closed streams", streams::closed(&scenes[1..3]), count);
@@ -101,6 +103,13 @@ fn of_readers(count: &mut Count) -> Judged {
     judge_all("runs whose reads and writes are cut short", in_pieces, count);
     let without = readers.iter().flat_map(|reader| reader.without_streams()).collect();
     judge_in_turn("runs that cannot read or print", without, count);
+    Ok(())
+}
+
+fn of_stack(count: &mut Count) -> Judged {
+    let [show, list, judge, fold] = ["show", "list", "judge", "fold"].map(words_of);
+    let programs = [&show?[..], &list?, &judge?, &fold?];
+    judge_all("runs with little stack", stack::all(programs), count);
     Ok(())
 }
 

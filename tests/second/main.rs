@@ -9,8 +9,9 @@
 //! - cases.rs, superbubble_cases.rs, fold_cases.rs, program_cases.rs: all that is asked
 //! - operations.rs, answers.rs, runs.rs, turns.rs: how it is asked, and the answers that are due
 //! - programs.rs, batch.rs, parallel.rs: the runs of the programs
-//! - sheet.rs: the words of the sheet that the programs say
-//! - faults.rs, stops.rs, failures.rs, streams.rs, kinds.rs, readers.rs: what may befall the programs
+//! - sheet.rs, messages.rs: the words that the programs say
+//! - faults.rs, stops.rs, failures.rs, streams.rs, kinds.rs, readers.rs, stack.rs: what may befall the
+//!   programs
 //! - traced.rs, calls.rs, story.rs, scene.rs, outcome.rs, folders.rs, checks.rs: how that is done,
 //!   and what is held against it
 //! - compare.rs, self_test.rs, coverage.rs, examples.rs, count.rs: the comparison, and the checks that
@@ -36,6 +37,7 @@ mod graphs;
 mod image;
 mod kinds;
 mod limits;
+mod messages;
 mod operations;
 mod outcome;
 mod parallel;
@@ -49,6 +51,7 @@ mod scene;
 mod self_test;
 mod shapes;
 mod sheet;
+mod stack;
 mod stops;
 mod story;
 mod streams;

@@ -5,12 +5,14 @@ use crate::cases::{resized, Cases};
 use crate::damages::{self, OF_IMAGE, OF_TABLE};
 use crate::graphs::{self, lettered, TWELVE};
 use crate::image;
+use crate::messages::{
+    of_fold, of_step, unread, words_of, IS_FOLDER, NO_FILE, NO_FOLDER, TOO_LONG,
+};
 use crate::operations::LONGEST_STREAM;
 use crate::random::Random;
-use crate::runs::{
-    message, unread, Due, Files, ProgramRun, IS_FOLDER, NO_FILE, NO_FOLDER, TOO_LONG,
-};
+use crate::runs::{Due, Files, ProgramRun};
 use crate::shapes;
+use crate::story::Step;
 
 /// The longest word that the system hands to a program.
 const LONGEST_WORD: usize = 131_071;
@@ -250,23 +252,24 @@ impl Cases {
             add("no IN", &["1", name, "out.sbt"], Due::Message(unread(name, error)));
         }
         add("no IN", &["1", "none.sbt", "none.sbt"], Due::Message(unread("none.sbt", NO_FILE)));
-        add("no IN", &["1", &longer, "out.sbt"], Due::Message(message("IN", TOO_LONG, "")));
-        let unseen = "OUT could not be looked at; ";
-        let unopened = "the folder of OUT could not be opened for reading; ";
-        let other = "OUT must be a plain file or a free name; ";
-        for (name, error, tried) in [
-            ("", NO_FILE, unseen),
-            ("in.sbt/out.sbt", NO_FOLDER, unseen),
-            (&long, TOO_LONG, unseen),
-            ("none/out.sbt", NO_FILE, unopened),
-            ("none/", NO_FILE, unopened),
-            ("folder", "it is a folder", other),
-            ("folder/", "it is a folder", other),
-            (".", "it is a folder", other),
+        let too_long = |name| Due::Message(of_fold(name, &words_of(TOO_LONG), "OUT is as it was"));
+        add("no IN", &["1", &longer, "out.sbt"], too_long("IN"));
+        add("no OUT", &["1", "in.sbt", &longer], too_long("OUT"));
+        for (name, error, step) in [
+            ("", NO_FILE, Step::LookAtOut),
+            ("in.sbt/out.sbt", NO_FOLDER, Step::LookAtOut),
+            (&long, TOO_LONG, Step::LookAtOut),
+            ("none/out.sbt", NO_FILE, Step::OpenFolder),
+            ("none/", NO_FILE, Step::OpenFolder),
         ] {
-            add("no OUT", &["1", "in.sbt", name], Due::Message(message(name, error, tried)));
+            let due = Due::Message(of_step(step, error, "in.sbt", name));
+            add("no OUT", &["1", "in.sbt", name], due);
         }
-        add("no OUT", &["1", "in.sbt", &longer], Due::Message(message("OUT", TOO_LONG, "")));
+        for name in ["folder", "folder/", "."] {
+            let state = "OUT must be a plain file or a free name; OUT is as it was";
+            let due = Due::Message(of_fold(name, "it is a folder", state));
+            add("no OUT", &["1", "in.sbt", name], due);
+        }
     }
 }
 

@@ -3,10 +3,11 @@
 
 use crate::calls::Deed;
 use crate::checks::{check, demand, demand_none, Check, Judged};
-use crate::count::{difference, quoted};
+use crate::count::difference;
 use crate::failures::ERRORS;
 use crate::graphs;
 use crate::image;
+use crate::messages::{self, IS_CLOSED, IS_FOLDER};
 use crate::outcome::demand_ended;
 use crate::random::Random;
 use crate::runs::ProgramRun;
@@ -15,9 +16,6 @@ use crate::streams::{SIGPIPE, UNWRITABLE};
 use crate::traced::{self, nothing, only, Action, End, Ended, Plan, Start, Stream};
 use std::error::Error;
 use std::io;
-
-const NOT_READ: &str = "standard input could not be read";
-const NOT_WRITTEN: &str = "standard output could not be written";
 
 /// A large image is read in pieces of so many bytes at the most, so that there are some.
 const PIECE: u64 = 20_000;
@@ -115,9 +113,11 @@ impl Reader<'_> {
         demand_ended(&ended)?;
         let is_same = ended.calls.get(place).is_some_and(|call| call.deed() == deed);
         demand(is_same, || "the call is another one than before".to_string())?;
-        match deed {
-            Deed::Read(_) => demand_not_read(&ended),
-            Deed::Write(1) => self.demand_stopped(&ended, place, action),
+        match (deed, action) {
+            (Deed::Read(_), Action::Fail(error) | Action::DoAndFail(error)) => {
+                demand_not_read(&ended, error)
+            }
+            (Deed::Write(1), _) => self.demand_stopped(&ended, place, action),
             // only the reason of a refusal is not said
             _ => demand_none(difference(self.due(), &ended.output)),
         }
@@ -155,10 +155,12 @@ impl Reader<'_> {
     /// Standard input that gives nothing, and standard output that takes nothing.
     pub fn without_streams(&self) -> Vec<Check<'_>> {
         let mut checks = Vec::new();
-        for (stream, name) in [(Stream::Closed, "closed"), (Stream::Folder, "a folder")] {
+        for (stream, name, error) in
+            [(Stream::Closed, "closed", IS_CLOSED), (Stream::Folder, "a folder", IS_FOLDER)]
+        {
             checks.push(check(format!("{}, standard input is {name}", self.title), move || {
                 let streams = [stream, Stream::Kept, Stream::Kept];
-                demand_not_read(&self.run(streams, &mut nothing)?)
+                demand_not_read(&self.run(streams, &mut nothing)?, error)
             }));
         }
         for &(stream, name) in UNWRITABLE.iter().chain(&[(Stream::Closed, "closed")]) {
@@ -177,17 +179,16 @@ impl Reader<'_> {
 
 const KEPT: [Stream; 3] = [Stream::Kept; 3];
 
-fn demand_not_read(ended: &Ended) -> Judged {
+fn demand_not_read(ended: &Ended, error: i64) -> Judged {
     demand_none(difference(b"", &ended.output))?;
-    demand_said_once(ended, NOT_READ)
+    demand_said(ended, &messages::unread_input(error))
 }
 
 fn demand_not_written(ended: &Ended) -> Judged {
-    demand_said_once(ended, NOT_WRITTEN)
+    demand_said(ended, messages::UNPRINTED)
 }
 
-fn demand_said_once(ended: &Ended, words: &str) -> Judged {
+fn demand_said(ended: &Ended, message: &str) -> Judged {
     demand_ended(ended)?;
-    let once = ended.errors.matches(words).count() == 1;
-    demand(once, || format!("it says {}", quoted(ended.errors.as_bytes())))
+    demand_none(difference(message.as_bytes(), ended.errors.as_bytes()))
 }

@@ -4,6 +4,7 @@
 use crate::count::{difference, Fault};
 use crate::fold;
 use crate::image;
+use crate::messages::{unread, NO_FILE};
 use crate::programs::{self, Run, SHORT, WHOLE};
 use crate::sheet;
 use crate::superbubbles::way;
@@ -49,22 +50,6 @@ pub enum Due {
     Usage,
     /// No answer, and these words on standard error.
     Message(String),
-}
-
-/// The system's errors in words, as the programs say them.
-pub const NO_FILE: &str = "there is no such file or folder: look at the name";
-pub const IS_FOLDER: &str = "it is a folder: give the name of a file";
-pub const NO_FOLDER: &str = "a part of the name is a file where a folder must be";
-pub const TOO_LONG: &str = "the name is too long: give a shorter one";
-
-/// The message of a fold that leaves OUT as it was: what the system says of a name, and what was tried.
-pub fn message(name: &str, error: &str, tried: &str) -> String {
-    format!("{name}: {error}\nfold: {tried}OUT is as it was\n")
-}
-
-/// The message of a fold whose IN could not be read.
-pub fn unread(name: &str, error: &str) -> String {
-    message(name, error, "IN could not be read; ")
 }
 
 impl ProgramRun {

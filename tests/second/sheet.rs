@@ -1,4 +1,4 @@
-//! The words of the sheet: the reason beside each number, as the table in docs/SHEET.md has it.
+//! The words of the sheet, docs/SHEET.md: the reason beside each number, as its table has it.
 
 const SHEET: &str = include_str!("../../docs/SHEET.md");
 
@@ -9,4 +9,9 @@ pub fn reason(number: u32) -> &'static str {
     let reason = reasons.next().unwrap_or_else(|| panic!("docs/SHEET.md has no reason {number}"));
     assert!(reasons.next().is_none(), "docs/SHEET.md has two reasons {number}");
     reason
+}
+
+/// Whether the sheet has these words.
+pub fn has(words: &str) -> bool {
+    SHEET.contains(words)
 }

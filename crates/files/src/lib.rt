@@ -8,6 +8,7 @@ mod names;
 mod reading;
 mod replacing;
 mod streams;
+mod writing;
 
 pub use messages::say_reason;
 pub use messages::say_replaced;

@@ -17,6 +17,7 @@ use crate::kind::find;
 use crate::names::OWN;
 use crate::names::open_folder;
 use crate::names::own_name;
+use crate::writing::write;
 
 // What replacing a file came to. Each number is the system's error.
 pub enum Replaced {
@@ -57,8 +58,9 @@ fn fill(fd: i32, found: Found, bytes: &[u8]) -> i32 {
     if error != 0 {
         return error;
     }
-    if !io::write_all(fd, bytes) {
-        return last();
+    let unwritten = write(fd, bytes);
+    if unwritten != 0 {
+        return unwritten;
     }
     if libc::fsync(fd) != 0 {
         return last();

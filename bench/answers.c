@@ -1,0 +1,237 @@
+// Whether the library and the plain C give the same answers, asked where a wrong one would differ: on the graphs A to
+// L, on small tables full of superbubbles, on damaged tables, with exact room and one less, and on both sides of each
+// limit. Every comparison is counted, and takes in all the memory that was lent.
+#include "bench.h"
+
+// ---- the count
+
+int passed, failed;
+
+void count(_Bool right, const char *operation, const char *what) {
+    if (right) {
+        passed++;
+        return;
+    }
+    failed++;
+    if (failed <= 20) // enough to find out why
+        printf("%s, %s, n = %lu, m = %lu: %s\n", operation, table.name, table.n, table.m, what);
+}
+
+void same(const char *operation, void (*our)(void), void (*their)(void)) {
+    _Bool right = agree(our, their);
+    char what[80];
+    snprintf(what, sizeof what, "the library and the plain C differ (numbers %u and %u)", ours.number, theirs.number);
+    count(right, operation, what);
+}
+
+// ---- one comparison of each call; bit k of its numbers says that it gave number k
+
+static u32 list_numbers, judge_numbers, fold_numbers;
+
+static void list(void) {
+    same("list", gohardim_lists, plain_lists);
+    list_numbers |= 1u << ours.number;
+}
+
+static void judge(void) {
+    same("judge", gohardim_judges, plain_judges);
+    judge_numbers |= 1u << ours.number;
+}
+
+static void fold(void) {
+    same("fold", gohardim_folds, plain_folds);
+    fold_numbers |= 1u << ours.number;
+}
+
+static void each_call(void) {
+    list();
+    judge();
+    fold();
+}
+
+// ---- a table that is not damaged: rooms, budgets and pairs
+
+static void lend_exact_room(void) {
+    lent.out = 2 * table.n;
+    lent.starts2 = table.n + 1;
+    lent.targets2 = table.m;
+    lent.counts2 = table.n;
+}
+
+static void with_one_less(usize *length, void (*call)(void)) {
+    if (*length == 0) return;
+    --*length;
+    call();
+    ++*length;
+}
+
+static void compare_rooms(void) { // more than is needed, exactly that, and each by itself one less
+    each_call();
+    lend_exact_room();
+    each_call();
+    with_one_less(&lent.out, list);
+    with_one_less(&lent.starts2, fold);
+    with_one_less(&lent.targets2, fold);
+    with_one_less(&lent.counts2, fold);
+}
+
+static void compare_budgets(void) { // 0, 1, 2, 3, and the powers of two; the rooms are compared with ALL
+    struct asked before = asked;
+    for (asked.budget = 0; asked.budget < 4; asked.budget++) fold();
+    for (asked.budget = 4; asked.budget != 0; asked.budget *= 2) fold();
+    asked = before;
+}
+
+static void compare_superbubbles(void) { // each that is listed is judged
+    struct asked before = asked;
+    static u32 pairs[2 * MOST];
+    gohardim_lists();
+    usize found = ours.found;
+    memcpy(pairs, ours.out, 2 * found * sizeof *pairs);
+    for (usize k = 0; k < found; k++) {
+        asked.s = pairs[2 * k];
+        asked.t = pairs[2 * k + 1];
+        judge();
+    }
+    asked = before;
+}
+
+static void compare_pairs(void) { // each, and those with n and n + 1, which are no vertices
+    struct asked before = asked;
+    for (asked.s = 0; asked.s < table.n + 2; asked.s++)
+        for (asked.t = 0; asked.t < table.n + 2; asked.t++) judge();
+    asked = before;
+}
+
+// ---- a table that is damaged at one place
+
+static void with_each_number(u32 *place, u32 most) {
+    u32 before = *place;
+    for (u32 number = 0; number <= most; number++) {
+        *place = number;
+        each_call();
+    }
+    *place = before;
+}
+
+static void with_largest_sums(u64 *count) { // reached, passed by one, and so large that the sum of 64 bits is small
+    u64 before = *count, others = 0;
+    for (usize v = 0; v < table.n; v++) others += table.counts[v];
+    others -= before;
+    *count = MOST_COUNTED - others;
+    each_call();
+    ++*count;
+    each_call();
+    *count = 0 - others;
+    each_call();
+    *count = before;
+}
+
+static void compare_damages(void) {
+    usize *const lengths[] = {&lent.starts,  &lent.targets,  &lent.counts, &lent.out,
+                              &lent.starts2, &lent.targets2, &lent.counts2};
+    lend_exact_room();
+    for (usize k = 0; k < sizeof lengths / sizeof *lengths; k++) {
+        with_one_less(lengths[k], each_call);
+        ++*lengths[k];
+        each_call();
+        --*lengths[k];
+    }
+    for (usize v = 0; v <= table.n; v++) with_each_number(&table.starts[v], table.m + 1);
+    for (usize k = 0; k < table.m; k++) with_each_number(&table.targets[k], table.n);
+    for (usize v = 0; v < table.n; v++) with_largest_sums(&table.counts[v]);
+}
+
+// ---- of several numbers the smallest: graph K with every choice of ten damages, each of which earns one number
+
+static void compare_choices(void) {
+    for (u32 choice = 0; choice < 1u << 10; choice++) {
+        make_graph('K');
+        lend_exact_room();
+        if (choice & 1) lent.starts = 0;                      // 1
+        if (choice & 2) lent.targets = MOST_EDGES + 1;        // 2
+        if (choice & 4) table.starts[0] = 1;                  // 3
+        if (choice & 8) table.targets[7] = table.n;           // 4
+        if (choice & 16) table.targets[1] = table.targets[0]; // 5
+        if (choice & 32) lent.counts--;                       // 6
+        if (choice & 64) table.counts[0] = MOST_COUNTED;      // 7
+        if (choice & 128) lent.out--, lent.counts2--;         // 8
+        if (choice & 256) table.targets[2] = 1;               // 9, by a self-loop
+        if (choice & 512) asked.s = table.n;                  // 13
+        each_call();
+    }
+}
+
+// ---- the largest tables, and those one larger
+
+static void compare_limits(void) {
+    for (usize n = MOST; n <= MOST + 1; n++) {
+        make_chain(n);
+        compare_rooms();
+        with_largest_sums(&table.counts[n - 1]);
+    }
+    make_superbubbles(MOST);
+    compare_budgets();
+    compare_superbubbles();
+    for (usize m = MOST_EDGES; m <= MOST_EDGES + 1; m++) {
+        make_random("acyclic", 200, m, 0);
+        compare_rooms();
+        make_random("random", 100, m, 1);
+        compare_rooms();
+    }
+}
+
+// ---- numbers far too large
+
+static void with_far_numbers(u32 *place, void (*call)(void)) {
+    u32 before = *place;
+    *place = 1u << 31;
+    call();
+    *place = ALL;
+    call();
+    *place = before;
+}
+
+static void compare_far(void) {
+    make_graph('K');
+    with_far_numbers(&asked.s, judge);
+    with_far_numbers(&asked.t, judge);
+    for (usize v = 0; v <= table.n; v++) with_far_numbers(&table.starts[v], each_call);
+    for (usize k = 0; k < table.m; k++) with_far_numbers(&table.targets[k], each_call);
+}
+
+// ---- all of it
+
+void compare_answers(void) {
+    for (char letter = 'A'; letter <= 'L'; letter++) {
+        make_graph(letter);
+        compare_rooms();
+        compare_budgets();
+        compare_pairs();
+        compare_damages();
+    }
+    for (u32 which = 0; which < 300; which++) {
+        make_drawn(which, 12);
+        compare_rooms();
+        compare_budgets();
+        compare_pairs();
+        if (which < 10) compare_damages();
+    }
+    for (u32 which = 0; which < 50; which++) {
+        make_drawn(which, 200);
+        compare_rooms();
+        compare_superbubbles();
+    }
+    for (u32 t = 0; t < 300; t++) {
+        make_arms(300, t);
+        each_call();
+    }
+    compare_choices();
+    compare_limits();
+    // A side that takes a number far too large reads far outside of what it was lent, and may not come back.
+    if (failed == 0) compare_far();
+    table.name = "all cases together";
+    count(list_numbers == (0x3f | 1u << 8), "list", "the numbers given are not 0 to 5 and 8");
+    count(judge_numbers == (0x3f | 1u << 13), "judge", "the numbers given are not 0 to 5 and 13");
+    count(fold_numbers == 0x3ff, "fold", "the numbers given are not 0 to 9");
+}
