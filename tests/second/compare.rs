@@ -10,6 +10,7 @@ use crate::faults;
 use crate::fold::Folded;
 use crate::fold_cases;
 use crate::image::Room;
+use crate::launcher;
 use crate::operations::{self, Operation};
 use crate::parallel;
 use crate::programs::{self, LONG, WHOLE};
@@ -32,7 +33,7 @@ pub fn compare(seed: u64) -> bool {
     println!("seed {seed}, {} cases", cases.len());
     self_test::check(&cases, &answers, seed, &mut count);
     count.judge_all(examples::check(Path::new("examples")));
-    launcher_refuses(&mut count);
+    launcher::check(&mut count);
 
     let compared: Vec<(&Case, &Vec<u8>)> =
         cases.iter().zip(&answers).filter(|(case, _)| case.is_compared()).collect();
@@ -55,16 +56,6 @@ pub fn programs(seed: u64) -> bool {
     faults::check_all(&mut count);
     run_programs(&cases::all(seed), &mut count);
     count.print()
-}
-
-/// `gohardim` without a program, or with one that there is not, says how it is used and ends with 2.
-fn launcher_refuses(count: &mut Count) {
-    for words in [&[][..], &["nothing"], &["../crates/show"]] {
-        let run = programs::run(Path::new("."), words, &[], WHOLE, LONG);
-        let refused = run.status == Ok(2) && run.output.is_empty() && run.errors.contains("usage:");
-        let fault = (!refused).then(|| format!("it says {}", quoted(run.errors.as_bytes())));
-        count.judge(&format!("gohardim {words:?} is refused"), fault);
-    }
 }
 
 // ---- batch

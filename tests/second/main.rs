@@ -10,6 +10,7 @@
 //! - operations.rs, answers.rs, runs.rs, turns.rs: how it is asked, and the answers that are due
 //! - programs.rs, batch.rs, parallel.rs: the runs of the programs
 //! - sheet.rs, messages.rs: the words that the programs say
+//! - launcher.rs, launcher/: the script `gohardim`
 //! - faults.rs, stops.rs, failures.rs, streams.rs, kinds.rs, readers.rs, stack.rs: what may befall the
 //!   programs
 //! - traced.rs, calls.rs, story.rs, scene.rs, outcome.rs, folders.rs, checks.rs: how that is done,
@@ -36,6 +37,7 @@ mod folders;
 mod graphs;
 mod image;
 mod kinds;
+mod launcher;
 mod limits;
 mod messages;
 mod operations;
