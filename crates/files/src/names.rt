@@ -73,7 +73,8 @@ fn put_hex(path: &mut [u8], at: usize, bytes: &[u8])
     }
 }
 
-// Puts a new name in the folder of a file, and answers its length; or 0, with the error, where the system has no random bytes. Two runs never write under one name, and no run reads, renames or removes what another one left.
+// Puts a new name in the folder of a file, and answers its length; or 0, with the error, where the system has no random bytes.
+// Two runs never write under one name, and no run reads, renames or removes what another one left.
 pub fn own_name(name: &[u8], path: &mut [u8; 4125]) -> usize
     requires { ⌜ length (now name) ≤ 4096 ⌝ }
     ensures { λ r. ⌜ Counts r (now (path .exit)) ⌝ }

@@ -4,7 +4,8 @@
 //  1. look at what stands at the name: only a plain file that may be written, or nothing, is replaced. Nothing is opened for it;
 //  2. open the folder: where it cannot be opened it cannot be flushed at the end, so this fails before anything is made;
 //  3. make a file under a name of its own in the same folder, only if that name is free: two runs never share it, and a rename within a folder is one step;
-//  4. give it the old one's owner and rights, before there is anything in it to read; write it, flush it to the disk and close it: a rename before the flush could lead to a file that a power loss leaves empty;
+//  4. give it the old one's owner and rights, before there is anything in it to read; write it, flush it to the disk and close it:
+//     a rename before the flush could lead to a file that a power loss leaves empty;
 //  5. rename it to the name: this is the moment at which the old one is replaced;
 //  6. flush the folder: only now is the new name on the disk, and only now may a program say that it is done.
 // Where a step up to 4 fails the file of its own is removed, and the old one is as it was. Nothing is printed meanwhile: a program prints once all is closed.

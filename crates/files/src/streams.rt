@@ -10,7 +10,8 @@ fn fill_next() -> i32 {
     fd
 }
 
-// Fills those of standard input, output and error that are closed, so that no file opened later gets their number and is written to by a message. A write to one that was filled fails, as to a closed one. Answers 0, or the error.
+// Fills those of standard input, output and error that are closed, so that no file opened later gets their number and is written to by a message.
+// A write to one that was filled fails, as to a closed one. Answers 0, or the error.
 pub fn fill_closed() -> i32 {
     let mut turns: u32 = 4;
     while turns > 0 {

@@ -1,2 +1,3 @@
--- The laws of `words` that its proofs cite. Assumes nothing.
+-- The laws of `words`, and that two answers of `words::parse` coincide. Assumes nothing.
 pub mod Reading
+pub mod Coincide

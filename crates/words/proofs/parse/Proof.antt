@@ -42,7 +42,7 @@ loop-less : tie.Need-loop-less Inv-loop μ-loop
 loop-less c = search needs
 
 loop-again : tie.Need-loop-again Inv-loop μ-loop
-loop-again c = read-next (at-loop c .loop .inv) (search needs) (search needs) (search needs) (search needs)
+loop-again c = read-next (at-loop c .loop .inv) (search needs) (search needs) (search needs)
 
 returns-4 : tie.Need-returns-4 Inv-loop μ-loop
 returns-4 c = says-too-large (c .before .before .loop .inv) (search needs) (search needs)

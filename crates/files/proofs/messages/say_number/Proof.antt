@@ -23,7 +23,9 @@ say-requires : tie.Need-say-requires
 say-requires c κs = search needs
 
 cast-print-decimal : tie.Need-cast-print-decimal
-cast-print-decimal c = (positive (toZ w32 (ofZ w32 (c .before .before .before .args .error))) (c .if1 .taken), fits-natAbs {w = w32} {w′ = w64} tt (sfits-toZ (fits-ofZ (c .before .before .before .fits .error))))
+cast-print-decimal c =
+    let start = c .before .before .before in
+    (positive (toZ w32 (ofZ w32 (start .args .error))) (c .if1 .taken), fits-natAbs {w = w32} {w′ = w64} tt (sfits-toZ (fits-ofZ (start .fits .error))))
 
 print-decimal-requires : tie.Need-print-decimal-requires
 print-decimal-requires c κs = search needs
