@@ -14,6 +14,7 @@ pub fn words_of(error: i64) -> String {
         17 => "the name is taken",
         20 => "a part of the name is a file where a folder must be",
         21 => "it is a folder: give the name of a file",
+        22 => "the system does not do this here",
         27 => "files may not become so large here",
         28 => "no room is left on its disk: make room there",
         30 => "its disk can only be read",

@@ -22,6 +22,7 @@ fn say_error(error: i32) {
         libc::EEXIST => say(b"the name is taken"),
         libc::ENOTDIR => say(b"a part of the name is a file where a folder must be"),
         libc::EISDIR => say(b"it is a folder: give the name of a file"),
+        libc::EINVAL => say(b"the system does not do this here"),
         libc::EFBIG => say(b"files may not become so large here"),
         libc::ENOSPC => say(b"no room is left on its disk: make room there"),
         libc::EROFS => say(b"its disk can only be read"),
