@@ -1,23 +1,35 @@
 //! What may befall the programs from outside: a fold is stopped at any of its system calls, two run
 //! at once, calls fail, standard streams are closed or full, and OUT is a file of any kind.
 //! Whatever comes, OUT is whole, old or new, and what is printed is true.
+//!
+//! - stops.rs, failures.rs, streams.rs, kinds.rs, readers.rs, stack.rs: what may befall them
+//! - traced.rs, calls.rs, story.rs, scene.rs, outcome.rs, folders.rs, checks.rs: how that is done, and
+//!   what is held against it
 
-use crate::checks::{check, demand, judge_all, judge_in_turn, Check, Judged};
+mod calls;
+mod checks;
+mod failures;
+mod folders;
+mod kinds;
+mod outcome;
+mod readers;
+mod scene;
+mod stack;
+mod stops;
+pub mod story;
+mod streams;
+mod traced;
+
 use crate::count::Count;
-use crate::failures;
-use crate::folders::FOLDERS;
-use crate::kinds;
 use crate::programs::{self, LONG, WHOLE};
-use crate::readers;
-use crate::scene::{Rehearsed, Scene};
-use crate::stack;
-use crate::stops;
-use crate::story::Step;
-use crate::streams;
-use crate::traced::CAN_TRACE;
+use checks::{check, demand, judge_all, judge_in_turn, Check, Judged};
+use folders::FOLDERS;
+use scene::{Rehearsed, Scene};
 use std::error::Error;
 use std::fs;
 use std::path::Path;
+use story::Step;
+use traced::CAN_TRACE;
 
 /// Tries all. Many programs are started, which is the quicker the less memory this one has.
 pub fn check_all(count: &mut Count) {

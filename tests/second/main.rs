@@ -11,56 +11,40 @@
 //! - programs.rs, batch.rs, parallel.rs: the runs of the programs
 //! - sheet.rs, messages.rs: the words that the programs say
 //! - launcher.rs, launcher/: the script `gohardim`
-//! - faults.rs, stops.rs, failures.rs, streams.rs, kinds.rs, readers.rs, stack.rs: what may befall the
-//!   programs
-//! - traced.rs, calls.rs, story.rs, scene.rs, outcome.rs, folders.rs, checks.rs: how that is done,
-//!   and what is held against it
+//! - faults.rs, faults/: what may befall the programs, system call by system call
 //! - compare.rs, self_test.rs, coverage.rs, examples.rs, count.rs: the comparison, and the checks that
 //!   need no program
 
 mod answers;
 mod batch;
-mod calls;
 mod cases;
-mod checks;
 mod compare;
 mod count;
 mod coverage;
 mod damages;
 mod definition;
 mod examples;
-mod failures;
 mod faults;
 mod fold;
 mod fold_cases;
-mod folders;
 mod graphs;
 mod image;
-mod kinds;
 mod launcher;
 mod limits;
 mod messages;
 mod operations;
-mod outcome;
 mod parallel;
 mod program_cases;
 mod programs;
 mod quick;
 mod random;
-mod readers;
 mod runs;
-mod scene;
 mod self_test;
 mod shapes;
 mod sheet;
-mod stack;
-mod stops;
-mod story;
-mod streams;
 mod superbubble_cases;
 mod superbubbles;
 mod table;
-mod traced;
 mod turns;
 mod worked;
 

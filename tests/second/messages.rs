@@ -1,6 +1,6 @@
 //! The messages of the programs, word for word: what the system says of a file, and how OUT stands.
 
-use crate::story::Step::{self, *};
+use crate::faults::story::Step::{self, *};
 
 /// An error of the system in words, with what to do.
 pub fn words_of(error: i64) -> String {

@@ -3,6 +3,7 @@
 
 use crate::cases::{resized, Cases};
 use crate::damages::{self, OF_IMAGE, OF_TABLE};
+use crate::faults::story::Step;
 use crate::graphs::{self, lettered, TWELVE};
 use crate::image;
 use crate::messages::{
@@ -12,7 +13,6 @@ use crate::operations::LONGEST_STREAM;
 use crate::random::Random;
 use crate::runs::{Due, Files, ProgramRun};
 use crate::shapes;
-use crate::story::Step;
 
 /// The longest word that the system hands to a program.
 const LONGEST_WORD: usize = 131_071;

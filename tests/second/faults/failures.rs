@@ -1,15 +1,15 @@
 //! A fold of which one system call fails: what it prints, what it says and what it leaves must be
 //! true of each other. And one whose reads and writes are cut short, which nobody may notice.
 
-use crate::calls::{Call, Deed};
-use crate::checks::{check, demand, demand_none, Check, Judged};
 use crate::count::{difference, quoted};
-use crate::folders::demand_same;
+use crate::faults::calls::{Call, Deed};
+use crate::faults::checks::{check, demand, demand_none, Check, Judged};
+use crate::faults::folders::demand_same;
+use crate::faults::outcome::{demand_ended, said, Found, Said, State};
+use crate::faults::scene::Rehearsed;
+use crate::faults::story::Step::{self, *};
+use crate::faults::traced::{Action, Ended};
 use crate::messages;
-use crate::outcome::{demand_ended, said, Found, Said, State};
-use crate::scene::Rehearsed;
-use crate::story::Step::{self, *};
-use crate::traced::{Action, Ended};
 
 pub const EIO: i64 = 5;
 pub const EACCES: i64 = 13;

@@ -1,10 +1,10 @@
 //! Folds to an OUT of every kind and by names of every kind, and the rights of the file that is
 //! written.
 
-use crate::checks::{check, Check, Judged};
-use crate::folders::{demand_same, Entry, Files, Folder};
-use crate::outcome::{demand_message, Said};
-use crate::scene::{of_letter, Scene};
+use crate::faults::checks::{check, Check, Judged};
+use crate::faults::folders::{demand_same, Entry, Files, Folder};
+use crate::faults::outcome::{demand_message, Said};
+use crate::faults::scene::{of_letter, Scene};
 use std::ffi::{c_char, c_int, c_uint, c_ulong, CString};
 use std::fs::{self, OpenOptions, Permissions};
 use std::io::{self, Error};

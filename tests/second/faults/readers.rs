@@ -1,19 +1,19 @@
 //! `show`, `list` and `judge` where a read or a write fails or is cut short: no answer is made of
 //! what could not be read, and nothing is printed after what could not be written.
 
-use crate::calls::Deed;
-use crate::checks::{check, demand, demand_none, Check, Judged};
 use crate::count::difference;
-use crate::failures::ERRORS;
+use crate::faults::calls::Deed;
+use crate::faults::checks::{check, demand, demand_none, Check, Judged};
+use crate::faults::failures::ERRORS;
+use crate::faults::outcome::demand_ended;
+use crate::faults::streams::{SIGPIPE, UNWRITABLE};
+use crate::faults::traced::{self, nothing, only, Action, End, Ended, Plan, Start, Stream};
 use crate::graphs;
 use crate::image;
 use crate::messages::{self, IS_CLOSED, IS_FOLDER};
-use crate::outcome::demand_ended;
 use crate::random::Random;
 use crate::runs::ProgramRun;
 use crate::shapes;
-use crate::streams::{SIGPIPE, UNWRITABLE};
-use crate::traced::{self, nothing, only, Action, End, Ended, Plan, Start, Stream};
 use std::error::Error;
 use std::io;
 

@@ -1,13 +1,13 @@
 //! Folds whose standard streams are closed, full or without a reader.
 
-use crate::calls::{Call, Deed};
-use crate::checks::{check, demand_none, Check, Judged};
 use crate::count::difference;
-use crate::failures::{EIO, ENOSPC};
-use crate::folders::demand_same;
-use crate::outcome::{demand_ended, demand_message, Said};
-use crate::scene::Scene;
-use crate::traced::{Action, End, Stream};
+use crate::faults::calls::{Call, Deed};
+use crate::faults::checks::{check, demand_none, Check, Judged};
+use crate::faults::failures::{EIO, ENOSPC};
+use crate::faults::folders::demand_same;
+use crate::faults::outcome::{demand_ended, demand_message, Said};
+use crate::faults::scene::Scene;
+use crate::faults::traced::{Action, End, Stream};
 
 // ---- closed
 

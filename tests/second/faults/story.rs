@@ -1,8 +1,8 @@
 //! The story of a fold, as its system calls tell it: which step each of them is, and the order that
 //! the steps must keep so that OUT is whole at any moment and what is printed is true.
 
-use crate::calls::{makes_new, only_reads, Call, Deed, Name};
 use crate::count::Fault;
+use crate::faults::calls::{makes_new, only_reads, Call, Deed, Name};
 use std::collections::BTreeMap;
 
 /// What the name of a new file begins with; 16 hexadecimal digits follow.

@@ -1,7 +1,7 @@
 //! A folder for one test: the files that are put there, and all that stands there afterwards.
 
-use crate::checks::{demand, Judged};
 use crate::count::quoted;
+use crate::faults::checks::{demand, Judged};
 use std::collections::{BTreeMap, BTreeSet};
 use std::fs::{self, Permissions};
 use std::io;

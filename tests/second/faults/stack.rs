@@ -1,8 +1,8 @@
 //! The stack that each program needs, as docs/SHEET.md states it: the programs are run with no more.
 
-use crate::checks::{check, demand, demand_none, Check};
 use crate::count::difference;
-use crate::folders::{Entry, Files, Folder};
+use crate::faults::checks::{check, demand, demand_none, Check};
+use crate::faults::folders::{Entry, Files, Folder};
 use crate::image;
 use crate::runs::ProgramRun;
 use crate::shapes;

@@ -1,10 +1,10 @@
 //! What a fold may leave and say: its answer, the files before and after, and the words about OUT.
 
-use crate::checks::{demand, demand_none, Judged};
 use crate::count;
-use crate::folders::{self, Files};
-use crate::story::is_new;
-use crate::traced::{End, Ended};
+use crate::faults::checks::{demand, demand_none, Judged};
+use crate::faults::folders::{self, Files};
+use crate::faults::story::is_new;
+use crate::faults::traced::{End, Ended};
 use std::error::Error;
 
 pub struct Due {

@@ -2,7 +2,7 @@
 //! and may be done, stopped, failed or cut short; what it answered is kept. Only the thread that
 //! started a program may trace it, so a run is followed to its end where it was started.
 
-use crate::calls::Call;
+use crate::faults::calls::Call;
 use std::ffi::{c_char, c_int, c_long, c_uint};
 use std::fs::{File, OpenOptions};
 use std::io::{self, Error, Read, Seek, Write};

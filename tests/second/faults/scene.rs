@@ -1,15 +1,15 @@
 //! A fold in a folder of its own: with which files and streams it is run, and which system calls it
 //! makes.
 
-use crate::calls::Call;
-use crate::checks::{demand, demand_none, Judged};
-use crate::folders::{demand_same, Entry, Files, Folder};
+use crate::faults::calls::Call;
+use crate::faults::checks::{demand, demand_none, Judged};
+use crate::faults::folders::{demand_same, Entry, Files, Folder};
+use crate::faults::outcome::{demand_ended, Due};
+use crate::faults::story::{Step, Story, NEW};
+use crate::faults::traced::{self, Ended, Plan, Start, Stream};
 use crate::graphs::lettered;
 use crate::image;
-use crate::outcome::{demand_ended, Due};
 use crate::runs::ProgramRun;
-use crate::story::{Step, Story, NEW};
-use crate::traced::{self, Ended, Plan, Start, Stream};
 use std::error::Error;
 use std::io;
 
