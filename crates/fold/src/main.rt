@@ -29,7 +29,7 @@ fn unprinted(state: &[u8]) {
         libc::STDERR_FILENO,
         b"standard output could not be written\n",
     );
-    files::say_state(b"fold", state);
+    messages::say_state(b"fold", state);
 }
 
 // Prints `refused N`, and its reason on standard error.
@@ -56,7 +56,7 @@ fn print_folded(outcome: Outcome) {
 fn print_replaced(replaced: Replaced, outcome: Outcome, to: &[u8]) {
     match replaced {
         Replaced::Done => print_folded(outcome),
-        _ => files::say_replaced(b"fold", to, replaced),
+        _ => messages::say_replaced(b"fold", to, replaced),
     }
 }
 
@@ -77,8 +77,8 @@ fn fold_stream(stream: &[u8], budget: u32, to: &[u8]) {
 fn fold_file(budget: u32, from: &[u8], to: &[u8], room: &mut [u8]) {
     let input = files::read_file(from, room, MOST);
     if input.error != 0 {
-        files::say_reason(from, input.error);
-        files::say_state(b"fold", b"IN could not be read; OUT is as it was");
+        messages::say_reason(from, input.error);
+        messages::say_state(b"fold", b"IN could not be read; OUT is as it was");
         return;
     }
     let count = input.count;
@@ -90,15 +90,15 @@ fn fold_named(budget: u32, room: &mut [u8]) {
     let mut from = io::buffer();
     let from_length = os::arg(2, &mut from);
     if os::errno() != 0 {
-        files::say_reason(b"IN", os::errno());
-        files::say_state(b"fold", b"OUT is as it was");
+        messages::say_reason(b"IN", os::errno());
+        messages::say_state(b"fold", b"OUT is as it was");
         return;
     }
     let mut to = io::buffer();
     let to_length = os::arg(3, &mut to);
     if os::errno() != 0 {
-        files::say_reason(b"OUT", os::errno());
-        files::say_state(b"fold", b"OUT is as it was");
+        messages::say_reason(b"OUT", os::errno());
+        messages::say_state(b"fold", b"OUT is as it was");
         return;
     }
     fold_file(budget, &from[..from_length], &to[..to_length], room);
@@ -116,8 +116,8 @@ fn usage() {
 fn main() {
     let error = files::fill_closed();
     if error != 0 {
-        files::say_reason(b"/dev/null", error);
-        files::say_state(
+        messages::say_reason(b"/dev/null", error);
+        messages::say_state(
             b"fold",
             b"standard streams that are closed could not be filled; OUT is as it was",
         );

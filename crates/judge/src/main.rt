@@ -65,7 +65,7 @@ fn image_line(
 fn judge_input(s: u32, t: u32, room: &mut [u8]) {
     let input = files::read(libc::STDIN_FILENO, room, MOST);
     if input.error != 0 {
-        files::unread_input(input.error);
+        messages::unread_input(input.error);
         return;
     }
     let count = input.count;

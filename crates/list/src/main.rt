@@ -70,7 +70,7 @@ fn list_input() {
     let mut stream = [0u8; MOST];
     let input = files::read(libc::STDIN_FILENO, &mut stream, MOST);
     if input.error != 0 {
-        files::unread_input(input.error);
+        messages::unread_input(input.error);
         return;
     }
     let count = input.count;

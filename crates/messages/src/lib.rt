@@ -1,5 +1,5 @@
 // What went wrong with a file, in words on standard error: what the system says of it and what to do, then what was done and how the file stands.
-use crate::replacing::Replaced;
+use files::Replaced;
 
 // Says some bytes. Where standard error cannot be written there is nowhere left to say it.
 fn say(words: &[u8]) {

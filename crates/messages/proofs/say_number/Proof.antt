@@ -1,4 +1,4 @@
--- `files::messages::say_number` is safe: an error above 0 fits 64 bits. Assumes nothing.
+-- `messages::say_number` is safe: an error above 0 fits 64 bits. Assumes nothing.
 use mathlib.Core.Path.{_≡_, sym, subst}
 use mathlib.Core.Bool.{true}
 use lib.IntN.{ℤ, pos, negsuc}
@@ -8,8 +8,8 @@ use mir.Syntax.{w32, w64}
 use mir.Val.{toZ, ofZ}
 use mir.Facts.{fits-natAbs, sfits-toZ, fits-ofZ}
 use borrow.Author.Needs.{needs}
-use Rattle.files.proofs.messages.say_number.Statement.{statement}
-use Rattle.files.proofs.messages.say_number.Tie as tie
+use Rattle.messages.proofs.say_number.Statement.{statement}
+use Rattle.messages.proofs.say_number.Tie as tie
 
 -- the test `error > 0`, on the number that the machine reads back from the error's bits
 positive : (z : ℤ) → ltZ (pos 0) z ≡ true → T (nonNeg z)
