@@ -206,7 +206,8 @@ static void depth(const char *operation, void (*our)(void), void (*their)(void))
         count(deepest(our) < MOST_STACK, operation, "the stack reaches 256 KB");
         return;
     }
-    printf("%-10s %-10s %6lu %6lu %10lu %10lu\n", operation, table.name, table.n, table.m, deepest(our), deepest(their));
+    printf("%-10s %-10s %6lu %6lu %10lu %10lu\n", operation, table.name, table.n, table.m, deepest(our),
+           deepest(their));
 }
 
 static void depths(void) {

@@ -1,21 +1,15 @@
-// The calls of the library, and the same calls in plain C. A slice is a pointer and a length.
-// The kit has no C headers, so the few names that are needed stand here.
+// The calls of the library, and the same calls in plain C. The kit has no C headers, so the few names that are needed
+// stand here.
+#include "gohardim.h"
+
 typedef unsigned char u8;
-typedef unsigned int u32;
-typedef unsigned long u64;
-typedef unsigned long usize;
+typedef gohardim_u32 u32;
+typedef gohardim_u64 u64;
+typedef gohardim_size usize;
 
-#define CALLS(NAME)                                                                                                  \
-    u32 NAME##_list(const u32 *starts, usize starts_len, const u32 *targets, usize targets_len, u32 *out,            \
-                    usize out_len, usize *found);                                                                    \
-    u32 NAME##_judge(const u32 *starts, usize starts_len, const u32 *targets, usize targets_len, u32 s, u32 t,       \
-                     _Bool *yes, u32 *size);                                                                         \
-    u32 NAME##_fold(const u32 *starts, usize starts_len, const u32 *targets, usize targets_len, const u64 *counts,   \
-                    usize counts_len, u32 budget, u32 *starts2, usize starts2_len, u32 *targets2,                    \
-                    usize targets2_len, u64 *counts2, usize counts2_len, usize *folded, usize *left, usize *edges);
-
-CALLS(gohardim)
-CALLS(plain)
+__typeof__(gohardim_list) plain_list;
+__typeof__(gohardim_judge) plain_judge;
+__typeof__(gohardim_fold) plain_fold;
 
 void *memset(void *to, int byte, usize size);
 void *memcpy(void *restrict to, const void *restrict from, usize size);

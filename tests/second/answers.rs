@@ -1,10 +1,12 @@
-//! The answers of the program `batch` that document 01 gives, and how far an answer reaches in what a
+//! The answers of the program `batch` that the rules give, and how far an answer reaches in what a
 //! program printed. Raw bytes stand behind an answer's first line: they are all the memory that was
 //! lent, as the call left it.
 
+use crate::count::Fault;
 use crate::fold::{self, Folded};
 use crate::image::{self, Room};
 use crate::operations::Operation::{self, *};
+use crate::parts::{difference_of_parts, Part};
 use crate::quick;
 use crate::superbubbles::{self, Way};
 use crate::table::{number_given, Table};
@@ -74,14 +76,66 @@ impl Operation {
             Show { .. } => (0..lines_after(&output[..first]))
                 .try_fold(first, |end, _| end_of_line(output, end))?,
             Check { .. } | Judge { .. } => first,
-            Write { room, .. } => first + room + 1,
-            Read { room, .. } | Fold { room, .. } => {
-                first + 4 * room.starts + 4 * room.targets + 8 * room.counts + 1
+            Write { .. } | Read { .. } | List { .. } | Fold { .. } => {
+                let bytes = |slice: &LentSlice| slice.length * slice.width;
+                first + self.lent().iter().map(bytes).sum::<usize>() + 1
             }
-            List { room, .. } => first + 4 * room + 1,
         };
         (end <= output.len()).then_some(end)
     }
+
+    /// The slices behind the first line of the answer.
+    fn lent(&self) -> Vec<LentSlice> {
+        let lent = |name, length, width| LentSlice { name, length, width };
+        match self {
+            Show { .. } | Check { .. } | Judge { .. } => Vec::new(),
+            Write { room, .. } => vec![lent("image", *room, 1)],
+            List { room, .. } => vec![lent("out", *room, 4)],
+            Read { room, .. } | Fold { room, .. } => vec![
+                lent("starts", room.starts, 4),
+                lent("targets", room.targets, 4),
+                lent("counts", room.counts, 8),
+            ],
+        }
+    }
+
+    /// An answer taken apart: the text, and then the slices, as far as it reaches.
+    pub fn parts(&self, answer: &[u8]) -> Vec<Part> {
+        let lent = self.lent();
+        if lent.is_empty() {
+            return vec![Part::text("", answer)];
+        }
+        let first = end_of_line(answer, 0).unwrap_or(answer.len());
+        let (line, mut rest) = answer.split_at(first);
+        let mut parts = vec![Part::text("", line)];
+        for slice in lent {
+            let (bytes, behind) = rest.split_at(rest.len().min(slice.length * slice.width));
+            let numbers: Vec<u64> = bytes.chunks(slice.width).map(little_endian).collect();
+            parts.push(Part::slice(slice.name, &numbers));
+            rest = behind;
+        }
+        parts.push(Part::text("behind the slices", rest));
+        parts
+    }
+
+    /// In words where another answer differs first, if it does.
+    pub fn difference(&self, answer: &[u8], came: &[u8]) -> Fault {
+        if answer == came {
+            return None;
+        }
+        difference_of_parts(&self.parts(answer), &self.parts(came))
+    }
+}
+
+/// A slice that was lent: how many numbers it has, and of how many bytes each is.
+struct LentSlice {
+    name: &'static str,
+    length: usize,
+    width: usize,
+}
+
+fn little_endian(bytes: &[u8]) -> u64 {
+    bytes.iter().rev().fold(0, |number, &byte| number << 8 | u64::from(byte))
 }
 
 // ---- the answers by what they say

@@ -1,18 +1,23 @@
 //! The cases: what is asked, in a fixed order with fixed numbers. A case depends on the seed and on
 //! its own number alone.
 
+use crate::count::{Count, Fault};
 use crate::damages::{self, OF_IMAGE, OF_TABLE};
 use crate::graphs::{self, TWELVE};
 use crate::image::{self, Room};
 use crate::limits;
-use crate::operations::{self, Operation, LONGEST_IMAGE};
+use crate::operations::{Operation, LONGEST_IMAGE};
 use crate::parallel;
+use crate::parts::Part;
 use crate::random::Random;
-use crate::runs::{self, ProgramRun};
+use crate::runs::ProgramRun;
 use crate::table::{Table, LARGEST_SUM};
+use crate::turns::{self, Folds, Turned, Turns};
 use crate::worked;
+use std::fmt::{self, Display, Formatter};
 
 pub struct Case {
+    seed: u64,
     pub number: usize,
     /// What is asked, in words.
     pub name: String,
@@ -26,39 +31,86 @@ pub enum Asked {
     Batch(Operation),
     /// A run of another program.
     Program(ProgramRun),
+    /// Folds in turn, by `batch`.
+    Turns(Turns),
 }
 
 impl Case {
-    /// What the program is handed on standard input for this case.
-    pub fn input(&self) -> Vec<u8> {
-        match &self.asked {
-            Asked::Batch(operation) => operation.question(),
-            Asked::Program(run) => run.stream.clone(),
-        }
-    }
-
     pub fn operation(&self) -> Option<&Operation> {
         match &self.asked {
             Asked::Batch(operation) => Some(operation),
-            Asked::Program(_) => None,
+            Asked::Program(_) | Asked::Turns(_) => None,
         }
     }
 
-    /// What is asked and of whom, in words.
-    pub fn title(&self) -> String {
-        let asked = match &self.asked {
+    pub fn turns(&self) -> Option<&Turns> {
+        match &self.asked {
+            Asked::Turns(turns) => Some(turns),
+            Asked::Batch(_) | Asked::Program(_) => None,
+        }
+    }
+
+    /// The program that is asked.
+    pub fn program(&self) -> &'static str {
+        match &self.asked {
+            Asked::Batch(_) | Asked::Turns(_) => "batch",
+            Asked::Program(run) => run.program,
+        }
+    }
+
+    /// What is asked, taken apart.
+    pub fn parts(&self) -> Vec<Part> {
+        match &self.asked {
+            Asked::Batch(operation) => operation.asked(),
+            Asked::Program(run) => run.asked(),
+            Asked::Turns(turns) => turns.asked(),
+        }
+    }
+
+    /// The answer of the second program. Folds in turn have none: they are held to each other.
+    pub fn answer(&self) -> Vec<u8> {
+        match &self.asked {
+            Asked::Batch(operation) => operation.answer(),
+            Asked::Program(run) => run.text().into(),
+            Asked::Turns(_) => Vec::new(),
+        }
+    }
+
+    /// An answer of the second program taken apart, or its beginning.
+    pub fn parts_of(&self, answer: &[u8]) -> Vec<Part> {
+        match &self.asked {
+            Asked::Batch(operation) => operation.parts(answer),
+            Asked::Program(_) | Asked::Turns(_) => vec![Part::text("standard output", answer)],
+        }
+    }
+}
+
+/// Its number, what is asked and of whom, in short.
+impl Display for Case {
+    fn fmt(&self, to: &mut Formatter) -> fmt::Result {
+        let by = match &self.asked {
             Asked::Batch(operation) => format!("{} by batch", operation.name()),
             Asked::Program(run) => run.command(),
+            Asked::Turns(_) => "folds in turn by batch".to_string(),
         };
-        format!("case {}, {asked}: {}", self.number, self.name)
+        let asked: Vec<String> = self.parts().iter().filter_map(Part::brief).collect();
+        write!(to, "case {}, {by}: {} ({})", self.number, self.name, asked.join(", "))
     }
+}
 
-    /// Whether the program that is asked knows what is asked.
-    pub fn is_compared(&self) -> bool {
-        match &self.asked {
-            Asked::Batch(operation) => operations::COMPARED.contains(&operation.name()),
-            Asked::Program(run) => runs::COMPARED.contains(&run.program),
-        }
+/// What is wrong with the cases that are folded in turn, where this folds.
+pub fn in_turn<'a>(cases: &'a [Case], folds: Folds) -> Vec<(&'a Case, Fault)> {
+    let of_turns = cases.iter().filter_map(|case| Some((case, case.turns()?)));
+    let (cases, turns): (Vec<&Case>, Vec<&Turns>) = of_turns.unzip();
+    let turned = turns::turned(&turns, folds);
+    cases.into_iter().zip(turned.iter().map(Turned::fault)).collect()
+}
+
+/// Counts cases by what is wrong with them. A failure says how to run the case again.
+pub fn judge(checks: Vec<(&Case, Fault)>, count: &mut Count) {
+    for (case, fault) in checks {
+        let again = format!("tests/build/second case {} {}", case.number, case.seed);
+        count.judge(case, fault.map(|fault| format!("{fault}; again: {again}")));
     }
 }
 
@@ -74,15 +126,13 @@ pub fn all(seed: u64) -> Vec<Case> {
     cases.superbubbles();
     cases.folds();
     cases.programs();
+    cases.folds_in_turn();
     cases.list
 }
 
 /// The answers of the second program.
 pub fn answers(cases: &[Case]) -> Vec<Vec<u8>> {
-    parallel::each(cases, |case| match &case.asked {
-        Asked::Batch(operation) => operation.answer(),
-        Asked::Program(run) => run.text().into(),
-    })
+    parallel::each(cases, Case::answer)
 }
 
 /// The cases so far. The makers stand here and in superbubble_cases.rs, fold_cases.rs and
@@ -103,9 +153,13 @@ impl Cases {
         self.push(name.into(), Asked::Program(run));
     }
 
+    pub fn add_turns(&mut self, name: &str, turns: Turns) {
+        self.push(name.to_string(), Asked::Turns(turns));
+    }
+
     fn push(&mut self, name: String, asked: Asked) {
-        let number = self.list.len();
-        self.list.push(Case { number, name, asked, by_hand: None });
+        let (seed, number) = (self.seed, self.list.len());
+        self.list.push(Case { seed, number, name, asked, by_hand: None });
     }
 
     /// Says how the answer to the last case begins.
@@ -138,7 +192,7 @@ impl Cases {
 
     // ---- the makers
 
-    /// The limits, and what document 01 works out itself.
+    /// The limits, and what the rules work out themselves.
     fn by_hand(&mut self) {
         for (first_line, name, operation) in limits::all(self.seed) {
             self.add(name, |_| operation);

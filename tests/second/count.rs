@@ -1,5 +1,7 @@
 //! The count of what passed and what failed, and the words for a failure.
 
+use std::fmt::Display;
+
 /// What is wrong, in words, or nothing.
 pub type Fault = Option<String>;
 
@@ -13,7 +15,7 @@ pub struct Count {
 }
 
 impl Count {
-    pub fn judge(&mut self, name: &str, fault: Fault) {
+    pub fn judge(&mut self, name: impl Display, fault: Fault) {
         match fault {
             None => self.passed += 1,
             Some(fault) => {
@@ -28,9 +30,9 @@ impl Count {
         }
     }
 
-    pub fn judge_all(&mut self, checks: Vec<(String, Fault)>) {
+    pub fn judge_all(&mut self, checks: Vec<(impl Display, Fault)>) {
         for (name, fault) in checks {
-            self.judge(&name, fault);
+            self.judge(name, fault);
         }
     }
 
@@ -42,29 +44,8 @@ impl Count {
     /// Prints the count as the last line. True where nothing failed.
     pub fn print(self) -> bool {
         println!("{} passed, {} failed", self.passed, self.failed);
-        !self.has_failed()
+        self.failed == 0
     }
-
-    pub fn has_failed(&self) -> bool {
-        self.failed > 0
-    }
-}
-
-/// In words where two answers differ, if they do.
-pub fn difference(expected: &[u8], came: &[u8]) -> Fault {
-    if expected == came {
-        return None;
-    }
-    let same = expected.iter().zip(came).take_while(|(one, other)| one == other).count();
-    let line = expected[..same].iter().rposition(|&byte| byte == b'\n').map_or(0, |end| end + 1);
-    let from = line.max(same.saturating_sub(20));
-    Some(format!(
-        "from byte {from} on expected {}, came {} ({} bytes and {})",
-        quoted(&expected[from..]),
-        quoted(&came[from..]),
-        expected.len(),
-        came.len()
-    ))
 }
 
 /// The first line of some bytes, or what fits of it.

@@ -1,5 +1,5 @@
-//! Ways to damage a table or an image. Each is made to break one rule of document 01, and several may
-//! follow on each other; what number the result earns is for table.rs and image.rs to say, not here.
+//! Ways to damage a table or an image. Each is made to break one of the rules, and several may follow on
+//! each other; what number the result earns is for table.rs and image.rs to say, not here.
 
 use crate::graphs;
 use crate::image::{self, HEADER};

@@ -1,6 +1,6 @@
-//! The definition of document 01, word by word, for tables of few vertices: sets that are closed under
-//! one more edge, every condition tried on every pair, every path laid beside every other. There is
-//! no search here, and nothing quick.
+//! The definition of the rules (docs/RULES.md, The definition), word by word, for tables of few
+//! vertices: sets that are closed under one more edge, every condition tried on every pair, every path
+//! laid beside every other. There is no search here, and nothing quick.
 
 use crate::superbubbles::{Superbubble, Way};
 use crate::table::Table;

@@ -1,4 +1,4 @@
-//! The examples: the twelve graphs A to L of document 01 as images, one file each.
+//! The examples: the twelve graphs A to L of the rules as images, one file each.
 
 use crate::count::Fault;
 use crate::graphs::{Graph, TWELVE};
@@ -18,9 +18,10 @@ pub fn write(folder: &Path) -> io::Result<()> {
     Ok(())
 }
 
-/// Holds the files of a folder to what `write` would write: for each the name of the check, and what
-/// is wrong.
-pub fn check(folder: &Path) -> Vec<(String, Fault)> {
+/// Holds the folder `examples` to what `write` would write: for each file the name of the check, and
+/// what is wrong.
+pub fn check() -> Vec<(String, Fault)> {
+    let folder = Path::new("examples");
     let mut checks = Vec::new();
     for graph in &TWELVE {
         let path = folder.join(file_name(graph));

@@ -21,13 +21,11 @@ mod streams;
 mod traced;
 
 use crate::count::Count;
-use crate::programs::{self, LONG, WHOLE};
+use crate::programs::words_of;
 use checks::{check, demand, judge_all, judge_in_turn, Check, Judged};
 use folders::FOLDERS;
 use scene::{Rehearsed, Scene};
-use std::error::Error;
 use std::fs;
-use std::path::Path;
 use story::Step;
 use traced::CAN_TRACE;
 
@@ -123,13 +121,4 @@ fn of_stack(count: &mut Count) -> Judged {
     let programs = [&show?[..], &list?, &judge?, &fold?];
     judge_all("runs with little stack", stack::all(programs), count);
     Ok(())
-}
-
-/// The words with which a program is started without the script `gohardim`.
-fn words_of(program: &str) -> Result<Vec<String>, Box<dyn Error>> {
-    let run = programs::run(Path::new("."), &["where", program], &[], WHOLE, LONG);
-    if run.status != Ok(0) {
-        return Err(format!("gohardim where {program}: {:?}, {}", run.status, run.errors).into());
-    }
-    Ok(String::from_utf8(run.output)?.lines().map(str::to_string).collect())
 }

@@ -1,6 +1,8 @@
-//! The fold of document 01, over the table handed in: its candidates, its kept paths, its counts.
+//! The fold of the rules (docs/RULES.md, Fold), over the table handed in: its candidates, its kept
+//! paths, its counts.
 
 use crate::graphs;
+use crate::parts::Part;
 use crate::superbubbles::{candidates, Way};
 use crate::table::Table;
 use std::collections::BTreeSet;
@@ -12,6 +14,14 @@ pub struct Folded {
     pub folded: usize,
     /// How many candidates the new table has.
     pub left: usize,
+}
+
+impl Folded {
+    pub fn parts(&self) -> Vec<Part> {
+        let mut parts = vec![Part::value("folded", self.folded), Part::value("left", self.left)];
+        parts.extend(self.table.parts());
+        parts
+    }
 }
 
 /// Folds a well-formed table without a cycle.

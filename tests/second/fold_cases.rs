@@ -50,26 +50,26 @@ impl Cases {
             Operation::Fold { budget: budget(random), room, table }
         });
     }
-}
 
-/// Tables to be folded in turn.
-pub fn turns(seed: u64) -> Vec<Turns> {
-    let mut turns = Vec::new();
-    let mut add = |many: usize, make: fn(&mut Random) -> Table| {
-        for _ in 0..many {
-            let random = &mut Random::of_case(seed, turns.len());
-            let table = make(random);
-            let budgets = [(); 3].map(|_| random.one_of(&[0, 1, 1, 2, 3, 40, 1_000_000_000]));
-            turns.push(Turns { table, budgets, further: budget(random) });
+    /// Tables to be folded in turn.
+    pub fn folds_in_turn(&mut self) {
+        let small: [(usize, &str, Make); 3] = [
+            (100, "any graph without a cycle", acyclic_small),
+            (500, "a small graph rich in superbubbles", bubbly_small),
+            (60, "a graph rich in superbubbles", bubbly),
+        ];
+        let large = LARGE.map(|(name, make)| (1, name, make));
+        for (many, name, make) in small.into_iter().chain(large) {
+            (0..many).for_each(|_| self.turns(name, make));
         }
-    };
-    add(100, acyclic_small);
-    add(500, bubbly_small);
-    add(60, bubbly);
-    for (_, make) in LARGE {
-        add(1, make);
     }
-    turns
+
+    fn turns(&mut self, name: &str, make: Make) {
+        let random = &mut self.next_random();
+        let table = make(random);
+        let budgets = [(); 3].map(|_| random.one_of(&[0, 1, 1, 2, 3, 40, 1_000_000_000]));
+        self.add_turns(name, Turns { table, budgets, further: budget(random) });
+    }
 }
 
 type Make = fn(&mut Random) -> Table;

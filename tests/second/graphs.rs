@@ -1,4 +1,4 @@
-//! Well-formed tables: the twelve graphs A to L of document 01, and random ones.
+//! Well-formed tables: the twelve graphs A to L of the rules, and random ones.
 
 use crate::random::Random;
 use crate::table::{Table, LARGEST_SUM, MOST_EDGES, MOST_VERTICES};
@@ -10,7 +10,7 @@ pub struct Graph {
     pub name: &'static str,
     edges: &'static [Edge],
     counts: &'static [u64],
-    /// Its superbubbles, as document 01 prints them.
+    /// Its superbubbles, as the rules print them.
     pub list: &'static [Edge],
 }
 
@@ -23,7 +23,8 @@ const fn graph(
     Graph { name, edges, counts, list }
 }
 
-/// The graphs of document 01. J, K and L have the counts of its folds; B has the largest sum.
+/// The graphs of docs/RULES.md, Twelve graphs. J, K and L have the counts of its worked folds; B has
+/// the largest sum.
 pub const TWELVE: [Graph; 12] = [
     graph("A", &[], &[], &[]),
     graph("B", &[], &[LARGEST_SUM], &[]),
@@ -55,12 +56,12 @@ impl Graph {
     }
 }
 
-/// The graph of document 01 with this letter.
+/// The one of the twelve with this letter.
 pub fn lettered(letter: &str) -> &'static Graph {
     TWELVE.iter().find(|graph| graph.name == letter).unwrap()
 }
 
-/// Graph J, document 01's worked example.
+/// Graph J, the worked example of the rules.
 pub fn j() -> Table {
     lettered("J").table()
 }

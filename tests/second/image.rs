@@ -1,6 +1,7 @@
-//! The house image of document 01: its layout, the numbers that reading it earns, and the text that
-//! the program `show` prints for it.
+//! The house image of the rules (docs/RULES.md, Image): its layout, the numbers that reading it earns,
+//! and the text that the program `show` prints for it.
 
+use crate::parts::Part;
 use crate::table::{number_given, Table, MOST_EDGES, MOST_VERTICES};
 
 pub const HEADER: usize = 13;
@@ -126,6 +127,11 @@ impl Room {
         Room { starts: n + 1, targets: m, counts: n }
     }
 
+    /// The three lengths in words.
+    pub fn words(self) -> String {
+        format!("{} {} {}", self.starts, self.targets, self.counts)
+    }
+
     /// Whether it is too little for a table of n vertices and m edges.
     pub fn is_below(self, n: usize, m: usize) -> bool {
         !Room::of(n, m).is_within(self)
@@ -134,6 +140,14 @@ impl Room {
     pub fn is_within(self, other: Room) -> bool {
         self.starts <= other.starts && self.targets <= other.targets && self.counts <= other.counts
     }
+}
+
+/// A stream taken apart: what `show` prints for it, and its bytes.
+pub fn parts(name: &str, stream: &[u8]) -> Vec<Part> {
+    vec![
+        Part::text(&format!("{name} by show"), text(stream).as_bytes()),
+        Part::slice(&format!("bytes of {name}"), stream),
+    ]
 }
 
 /// What `show` prints for a stream.

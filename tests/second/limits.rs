@@ -1,5 +1,5 @@
-//! Cases that document 01 names itself, limits and one past them, with answers written by hand: they
-//! hold the second program to the document as well.
+//! Cases that the rules name themselves (docs/RULES.md, Limits), limits and one past them, with answers
+//! written by hand: they hold the second program to the rules as well.
 
 use crate::graphs::{self, lettered};
 use crate::image::{self, Room};

@@ -1,6 +1,6 @@
-//! The second program: document 01 once more, in another language and without a line of the crates,
-//! to compare the Rattle programs with. It is run in the repository's root; `.ci/run` builds and runs
-//! it.
+//! The second program: the rules (docs/RULES.md) once more, in another language and without a line of
+//! the crates, to compare the Rattle programs with. It is run in the repository's root; `.ci/run`
+//! builds and runs it.
 //!
 //! - table.rs, image.rs: the rules and the numbers
 //! - superbubbles.rs, definition.rs, quick.rs, fold.rs: superbubbles in two ways, and the fold
@@ -8,13 +8,16 @@
 //! - limits.rs, worked.rs: cases with answers written by hand
 //! - cases.rs, superbubble_cases.rs, fold_cases.rs, program_cases.rs: all that is asked
 //! - operations.rs, answers.rs, runs.rs, turns.rs: how it is asked, and the answers that are due
+//! - parts.rs: questions and answers taken apart, and where two answers differ first
 //! - programs.rs, batch.rs, parallel.rs: the runs of the programs
 //! - sheet.rs, messages.rs: the words that the programs say
 //! - launcher.rs, launcher/: the script `gohardim`
 //! - faults.rs, faults/: what may befall the programs, system call by system call
 //! - compare.rs, self_test.rs, coverage.rs, examples.rs, count.rs: the comparison, and the checks that
 //!   need no program
+//! - again.rs: one case again, by its number
 
+mod again;
 mod answers;
 mod batch;
 mod cases;
@@ -34,6 +37,7 @@ mod limits;
 mod messages;
 mod operations;
 mod parallel;
+mod parts;
 mod program_cases;
 mod programs;
 mod quick;
@@ -49,29 +53,28 @@ mod turns;
 mod worked;
 
 use count::Count;
-use std::io::Write;
 use std::path::Path;
 use std::process::ExitCode;
 
 const USAGE: &str = "usage:
-  second compare [SEED]            compare the programs on every case; the last line is the count
-  second programs                  the part of it that needs no batch
-  second self-test [SEED]          try the second program alone, as `compare` does as well
-  second question NUMBER [SEED]    write what a program is handed for one case
-  second examples FOLDER           write the twelve graphs A to L as images
-SEED is a number; 1 where there is none.";
+  second compare [SEED]        compare the programs on every case; the last line is the count
+  second programs [SEED]       the part of it that needs no batch
+  second self-test [SEED]      try the second program alone, as `compare` does as well
+  second case NUMBER [SEED]    run one case again, of any operation or program: what is asked, the
+                               answer that is expected, the one that comes, and where they differ
+  second examples FOLDER       write the twelve graphs A to L as images
+NUMBER is that of a case in the line of its failure. SEED is a number; 1 where there is none.";
 
 fn main() -> ExitCode {
     let words: Vec<String> = std::env::args().skip(1).collect();
     let words: Vec<&str> = words.iter().map(String::as_str).collect();
-    let done = match words[..] {
-        ["compare"] => compare::compare(1),
-        ["compare", seed] => seed.parse().map_or_else(|_| usage(), compare::compare),
-        ["programs"] => compare::programs(1),
-        ["self-test"] => self_test(1),
-        ["self-test", seed] => seed.parse().map_or_else(|_| usage(), self_test),
-        ["question", number] => question(number, "1"),
-        ["question", number, seed] => question(number, seed),
+    let done = match &words[..] {
+        ["compare", seed @ ..] => with_seed(seed, compare::compare),
+        ["programs", seed @ ..] => with_seed(seed, compare::programs),
+        ["self-test", seed @ ..] => with_seed(seed, self_test),
+        ["case", number, seed @ ..] => number
+            .parse()
+            .map_or_else(|_| usage(), |number| with_seed(seed, |seed| again::run(number, seed))),
         ["examples", folder] => write_examples(folder),
         _ => usage(),
     };
@@ -82,6 +85,16 @@ fn main() -> ExitCode {
     }
 }
 
+/// Does it with the seed that these words say, or with 1 where there are none.
+fn with_seed(words: &[&str], done: impl FnOnce(u64) -> bool) -> bool {
+    let seed = match words {
+        [] => Some(1),
+        [seed] => seed.parse().ok(),
+        _ => None,
+    };
+    seed.map_or_else(usage, done)
+}
+
 fn usage() -> bool {
     eprintln!("{USAGE}");
     false
@@ -90,20 +103,8 @@ fn usage() -> bool {
 fn self_test(seed: u64) -> bool {
     let mut count = Count::default();
     let cases = cases::all(seed);
-    self_test::check(&cases, &cases::answers(&cases), seed, &mut count);
+    self_test::check(&cases, &cases::answers(&cases), &mut count);
     count.print()
-}
-
-fn question(number: &str, seed: &str) -> bool {
-    let (Ok(number), Ok(seed)) = (number.parse::<usize>(), seed.parse()) else {
-        return usage();
-    };
-    let cases = cases::all(seed);
-    let Some(case) = cases.get(number) else {
-        eprintln!("there are the cases 0 to {}", cases.len() - 1);
-        return false;
-    };
-    std::io::stdout().write_all(&case.input()).is_ok()
 }
 
 fn write_examples(folder: &str) -> bool {

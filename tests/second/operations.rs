@@ -1,16 +1,13 @@
 //! The operations as the program `batch` takes them: for each the question that it is handed, and the
-//! numbers that it earns by document 01.
+//! numbers that it earns by the rules (docs/RULES.md, Numbers).
 //!
 //! A question is one byte, the operation; the length of the body, 32 bits; and the body. All numbers
 //! are little-endian. What is asked of a table without its counts is handed none.
 
 use crate::image::{self, Room};
+use crate::parts::Part;
 use crate::superbubbles;
 use crate::table::Table;
-
-/// The operations that are compared now. Those that `batch` does not know yet stand in OPERATIONS
-/// alone: their cases are made and their answers are held to the definition, but nobody is asked.
-pub const COMPARED: &[&str] = &["show", "check", "write", "read", "list", "judge", "fold"];
 
 /// The longest stream that a question has: the most that `show` reads.
 pub const LONGEST_STREAM: usize = image::LARGEST + 1;
@@ -119,6 +116,26 @@ impl Operation {
         append_number(&mut question, body.len());
         question.extend(body);
         question
+    }
+
+    /// The question taken apart.
+    pub fn asked(&self) -> Vec<Part> {
+        let (values, handed) = match self {
+            Show { stream } => (vec![], image::parts("the stream", stream)),
+            Check { table } => (vec![], table.parts()),
+            Write { room, table } | List { room, table } => {
+                (vec![("room", room.to_string())], table.parts())
+            }
+            Read { room, stream } => {
+                (vec![("room", room.words())], image::parts("the stream", stream))
+            }
+            Judge { pair: (s, t), table } => (vec![("pair", format!("{s} {t}"))], table.parts()),
+            Fold { budget, room, table } => {
+                (vec![("budget", budget.to_string()), ("room", room.words())], table.parts())
+            }
+        };
+        let values = values.into_iter().map(|(name, value)| Part::value(name, value));
+        values.chain(handed).collect()
     }
 
     /// The numbers whose condition holds, in the order in which they are given. A cycle is looked for

@@ -21,7 +21,7 @@ impl Cases {
     pub fn programs(&mut self) {
         self.streams(ProgramRun::show);
         self.streams(ProgramRun::list);
-        self.add_run("document 01's example", ProgramRun::list(of_letter("J")));
+        self.add_run("the example of the rules", ProgramRun::list(of_letter("J")));
         self.begins("superbubbles 2\n0 6\n1 4\n");
         for shape in [shapes::chain(2_048), shapes::ring(2_048), shapes::nests(20, 34)] {
             let table = shape.relabelled(&mut self.next_random()).counted(1);

@@ -1,6 +1,8 @@
 //! Runs of the Rattle programs, by the script `gohardim` in the repository's root: it knows the kit's
 //! loader and emulator.
 
+use crate::count::quoted;
+use std::error::Error;
 use std::io::{ErrorKind, Read, Write};
 use std::path::{Path, PathBuf};
 use std::process::{Child, ChildStdin, Command, Stdio};
@@ -26,12 +28,17 @@ pub struct Run {
 }
 
 impl Run {
+    /// What it said on standard error, in short.
+    pub fn said(&self) -> String {
+        format!("it says {}", quoted(self.errors.as_bytes()))
+    }
+
     /// In words how the run ended, unless it ended with this status.
     pub fn trouble(&self, due: i32) -> Option<String> {
         match &self.status {
             Ok(status) if *status == due => None,
-            Ok(status) => Some(format!("the status is {status}, due {due}: {}", self.errors)),
-            Err(why) => Some(format!("the run {why}: {}", self.errors)),
+            Ok(status) => Some(format!("the status is {status}, due {due}; {}", self.said())),
+            Err(why) => Some(format!("the run {why}; {}", self.said())),
         }
     }
 }
@@ -63,6 +70,16 @@ pub fn run(folder: &Path, words: &[&str], input: &[u8], piece: usize, limit: Dur
         let errors = String::from_utf8_lossy(&errors.join().unwrap()).into_owned();
         Run { output: output.join().unwrap(), errors, status }
     })
+}
+
+/// The words with which a program is started without the script `gohardim`. Where it is missing it is
+/// built.
+pub fn words_of(program: &str) -> Result<Vec<String>, Box<dyn Error>> {
+    let run = run(Path::new("."), &["where", program], &[], WHOLE, LONG);
+    if run.status != Ok(0) {
+        return Err(format!("gohardim where {program}: {:?}, {}", run.status, run.errors).into());
+    }
+    Ok(String::from_utf8(run.output)?.lines().map(str::to_string).collect())
 }
 
 fn all_of(mut stream: impl Read) -> Vec<u8> {

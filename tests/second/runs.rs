@@ -1,32 +1,22 @@
 //! Runs of the programs `show`, `list`, `judge` and `fold`, one for each case, in a folder of its own:
 //! what a program is handed, what it must print, and which files it must leave.
 
-use crate::count::{difference, Fault};
+use crate::count::Fault;
 use crate::fold;
 use crate::image;
 use crate::messages::{unread, NO_FILE};
-use crate::programs::{self, Run, SHORT, WHOLE};
+use crate::parts::{difference_of_parts, Part};
+use crate::programs::{self, Run, WHOLE};
 use crate::sheet;
 use crate::superbubbles::way;
 use crate::table::{number_given, Table};
 use std::fs;
 use std::io;
 use std::path::Path;
+use std::time::Duration;
 
-/// The programs that are compared now, beside `batch`.
-pub const COMPARED: &[&str] = &["show", "list", "judge", "fold"];
-
-/// Words with which a program can be started first, with an empty input, and what it must print then.
-pub fn to_start(program: &str) -> (&'static [&'static str], Due) {
-    let refused = || Due::Text("refused 10\n".to_string());
-    match program {
-        "batch" => (&["batch"], Due::Text(String::new())),
-        "show" => (&["show"], refused()),
-        "list" => (&["list"], refused()),
-        "judge" => (&["judge", "0", "1"], refused()),
-        _ => (&["fold", "0", "none.sbt", "none.sbt"], Due::Message(unread("none.sbt", NO_FILE))),
-    }
-}
+/// The programs that are run alone, each case in a run of its own.
+pub const PROGRAMS: [&str; 4] = ["show", "list", "judge", "fold"];
 
 /// Files by name, in the order of their names. A name that ends with a slash is a folder.
 pub type Files = Vec<(String, Vec<u8>)>;
@@ -52,7 +42,49 @@ pub enum Due {
     Message(String),
 }
 
+/// What a run leaves: what it prints and says, its status, and the files in its folder.
+pub struct Outcome {
+    pub run: Run,
+    files: Files,
+}
+
+impl Outcome {
+    pub fn parts(&self) -> Vec<Part> {
+        let status = match &self.run.status {
+            Ok(status) => status.to_string(),
+            Err(why) => format!("none, it {why}"),
+        };
+        let mut parts = vec![
+            Part::text("standard output", &self.run.output),
+            Part::text("standard error", self.run.errors.as_bytes()),
+            Part::value("status", status),
+        ];
+        parts.extend(parts_of_files(&self.files));
+        parts
+    }
+}
+
+/// The names, and then each file.
+fn parts_of_files(files: &Files) -> Vec<Part> {
+    let names: String = files.iter().map(|(name, _)| format!("{name}\n")).collect();
+    let mut parts = vec![Part::text("files", names.as_bytes())];
+    parts.extend(files.iter().flat_map(|(name, bytes)| image::parts(name, bytes)));
+    parts
+}
+
 impl ProgramRun {
+    /// A first run of a program, without any input.
+    pub fn to_start(program: &'static str) -> ProgramRun {
+        let refused = Due::Text("refused 10\n".to_string());
+        let (words, due): (&[&str], Due) = match program {
+            "batch" => (&[], Due::Text(String::new())),
+            "judge" => (&["0", "1"], refused),
+            "fold" => (&["0", "none.sbt", "none.sbt"], Due::Message(unread("none.sbt", NO_FILE))),
+            _ => (&[], refused),
+        };
+        ProgramRun::of_stream(program, words, Vec::new(), due)
+    }
+
     /// A program that reads its standard input, and no file.
     pub fn of_stream(
         program: &'static str,
@@ -137,17 +169,32 @@ impl ProgramRun {
         }
     }
 
-    /// Does the run in this folder, which is made for it and taken away again.
-    pub fn fault(&self, folder: &Path) -> Fault {
-        let done = self.done_in(folder);
-        let cleared = fs::remove_dir_all(folder);
-        match done.and_then(|fault| cleared.map(|_| fault)) {
-            Ok(fault) => fault,
-            Err(error) => Some(format!("{}: {error}", folder.display())),
+    /// What the program is handed, taken apart.
+    pub fn asked(&self) -> Vec<Part> {
+        if !self.before.is_empty() {
+            return parts_of_files(&self.before);
         }
+        let mut asked = image::parts("standard input", &self.stream);
+        if self.piece != WHOLE {
+            asked.push(Part::value("in pieces of", self.piece));
+        }
+        asked
     }
 
-    fn done_in(&self, folder: &Path) -> io::Result<Fault> {
+    /// Does the run in this folder, which is made for it and taken away again.
+    pub fn outcome(&self, folder: &Path, limit: Duration) -> io::Result<Outcome> {
+        self.lay_out(folder)?;
+        let words: Vec<&str> =
+            std::iter::once(self.program).chain(self.words.iter().map(String::as_str)).collect();
+        let run = programs::run(folder, &words, &self.stream, self.piece, limit);
+        let files = files_in(folder, "");
+        fs::remove_dir_all(folder)?;
+        Ok(Outcome { run, files: files? })
+    }
+
+    /// Makes a folder with the files that are there before the run. What an earlier one left is gone.
+    pub fn lay_out(&self, folder: &Path) -> io::Result<()> {
+        let _ = fs::remove_dir_all(folder);
         fs::create_dir_all(folder)?;
         for (name, content) in &self.before {
             if name.ends_with('/') {
@@ -156,43 +203,43 @@ impl ProgramRun {
                 fs::write(folder.join(name), content)?;
             }
         }
-        let words: Vec<&str> =
-            std::iter::once(self.program).chain(self.words.iter().map(String::as_str)).collect();
-        let run = programs::run(folder, &words, &self.stream, self.piece, SHORT);
-        let left = files_in(folder, "")?;
-        Ok(self.due.fault(self.program, &run).or_else(|| self.fault_of_files(&left)))
+        Ok(())
     }
 
-    fn fault_of_files(&self, left: &Files) -> Fault {
-        let names = |files: &Files| files.iter().map(|(name, _)| name.clone()).collect::<Vec<_>>();
-        let mut due = self.after.clone();
-        due.sort();
-        if names(&due) != names(left) {
-            return Some(format!("it left the files {:?}, due {:?}", names(left), names(&due)));
-        }
-        let mut differences = due.iter().zip(left).filter_map(|((name, due), (_, content))| {
-            difference(due, content).map(|fault| format!("{name}: {fault}"))
-        });
-        differences.next()
+    /// The outcome that is expected beside the one that came.
+    pub fn expected(&self, came: &Outcome) -> Outcome {
+        let mut files = self.after.clone();
+        files.sort();
+        Outcome { run: self.due.run(self.program, &came.run.output), files }
+    }
+
+    pub fn fault(&self, outcome: &io::Result<Outcome>) -> Fault {
+        let came = match outcome {
+            Ok(came) => came,
+            Err(error) => return Some(format!("the folder of its run: {error}")),
+        };
+        let expected = self.expected(came);
+        let fault = difference_of_parts(&expected.parts(), &came.parts())?;
+        // why it does not print what it must is often said
+        let is_told = expected.run.output == came.run.output || came.run.errors.is_empty();
+        Some(if is_told { fault } else { format!("{fault}; {}", came.run.said()) })
     }
 }
 
 impl Due {
-    pub fn fault(&self, program: &str, run: &Run) -> Fault {
-        let usage = format!("usage: {program} ");
-        let is_usage = run.output.starts_with(usage.as_bytes())
-            && run.output.iter().filter(|&&byte| byte == b'\n').count() == 1
-            && run.output.ends_with(b"\n");
-        let (output, errors): (&[u8], String) = match self {
-            Due::Text(text) => (text.as_bytes(), reason_beside(text)),
-            Due::Usage if is_usage => (&run.output, String::new()),
-            Due::Usage => (usage.as_bytes(), String::new()),
-            Due::Message(message) => (b"", message.clone()),
+    /// The run that is expected where this was printed: of a usage line the beginning alone is known.
+    fn run(&self, program: &str, printed: &[u8]) -> Run {
+        let usage = format!("usage: {program} ").into_bytes();
+        let is_usage = printed.starts_with(&usage)
+            && printed.iter().filter(|&&byte| byte == b'\n').count() == 1
+            && printed.ends_with(b"\n");
+        let (output, errors) = match self {
+            Due::Text(text) => (text.clone().into_bytes(), reason_beside(text)),
+            Due::Usage if is_usage => (printed.to_vec(), String::new()),
+            Due::Usage => (usage, String::new()),
+            Due::Message(message) => (Vec::new(), message.clone()),
         };
-        let said = run.errors.as_bytes();
-        run.trouble(status_of(output))
-            .or_else(|| difference(output, &run.output))
-            .or_else(|| difference(errors.as_bytes(), said).map(|fault| format!("stderr: {fault}")))
+        Run { status: Ok(status_of(&output)), output, errors }
     }
 }
 

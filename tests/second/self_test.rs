@@ -1,64 +1,56 @@
-//! The second program held to itself and to document 01: its answers to what was written by hand, the
+//! The second program held to itself and to the rules: its answers to what was written by hand, the
 //! definition against the quick way, folding in turn against folding by the sum, and that the cases
 //! reach what they must.
 
-use crate::cases::Case;
-use crate::count::{difference, quoted, Count, Fault};
+use crate::cases::{self, Case};
+use crate::count::{Count, Fault};
 use crate::coverage;
 use crate::fold::{self, Folded};
-use crate::fold_cases;
-use crate::operations::Operation;
 use crate::parallel;
+use crate::parts::difference_of_parts;
 use crate::quick;
 use crate::superbubbles;
 use crate::table::Table;
-use crate::turns;
 
 /// Tries all, and prints how many checks there are of each kind. The answers are those to the cases.
-pub fn check(cases: &[Case], answers: &[Vec<u8>], seed: u64, count: &mut Count) {
+pub fn check(cases: &[Case], answers: &[Vec<u8>], count: &mut Count) {
     count.judge_all(coverage::check(cases, answers));
-    let kinds = [
-        ("answers written by hand", by_hand(cases, answers)),
-        ("answers by the definition and by the quick way", by_both_ways(cases, answers)),
-        ("tables folded in turn and by the sum", in_turn(seed)),
+    let with_answers: Vec<(&Case, &Vec<u8>)> = cases.iter().zip(answers).collect();
+    let each = |check: fn(&Case, &[u8]) -> Option<Fault>| {
+        let check = |&(case, answer): &(_, &Vec<u8>)| Some((case, check(case, answer)?));
+        parallel::each(&with_answers, check).into_iter().flatten().collect()
+    };
+    let kinds: [(&str, Vec<(&Case, Fault)>); 3] = [
+        ("answers written by hand", each(by_hand)),
+        ("answers by the definition and by the quick way", each(by_both_ways)),
+        ("tables folded in turn and by the sum", cases::in_turn(cases, &fold)),
     ];
     for (kind, checks) in kinds {
         println!("self-test: {} {kind}", checks.len());
-        count.judge_all(checks);
+        let told = |fault| format!("self-test, {kind}: {fault}");
+        let checks = checks.into_iter().map(|(case, fault)| (case, fault.map(told)));
+        cases::judge(checks.collect(), count);
     }
 }
 
-fn by_hand(cases: &[Case], answers: &[Vec<u8>]) -> Vec<(String, Fault)> {
-    let fault = |due: &[u8], answer: &[u8]| {
-        let held = answer.starts_with(due);
-        (!held).then(|| format!("{} is due, not {}", quoted(due), quoted(answer)))
-    };
-    let with_answers = cases.iter().zip(answers);
-    with_answers
-        .filter_map(|(case, answer)| Some((case.title(), fault(case.by_hand.as_ref()?, answer))))
-        .collect()
+/// What is wrong with an answer, by what was written by hand, where anything was.
+pub fn by_hand(case: &Case, answer: &[u8]) -> Option<Fault> {
+    let due = case.by_hand.as_ref()?;
+    let begin = &answer[..answer.len().min(due.len())];
+    Some(difference_of_parts(&case.parts_of(due), &case.parts_of(begin)))
 }
 
-/// Every answer about superbubbles of a small table: it was found by the definition, and now quickly.
-fn by_both_ways(cases: &[Case], answers: &[Vec<u8>]) -> Vec<(String, Fault)> {
-    let small: Vec<(&Case, &Operation, &Vec<u8>)> = cases
-        .iter()
-        .zip(answers)
-        .filter_map(|(case, answer)| Some((case, case.operation()?, answer)))
-        .filter(|(_, operation, _)| operation.searched().is_some_and(superbubbles::is_small))
-        .collect();
-    parallel::each(&small, |(case, operation, answer)| {
-        (case.title(), difference(answer, &operation.answer_by(&quick::WAY)))
+/// The same of an answer about superbubbles of a small table: it was found by the definition, and now
+/// quickly.
+pub fn by_both_ways(case: &Case, answer: &[u8]) -> Option<Fault> {
+    let operation = case.operation()?;
+    operation.searched().filter(|table| superbubbles::is_small(table))?;
+    Some(operation.difference(answer, &operation.answer_by(&quick::WAY)))
+}
+
+/// Folds by the second program itself.
+pub fn fold(questions: &[(&Table, u32)]) -> Vec<Result<Folded, String>> {
+    parallel::each(questions, |(table, budget)| {
+        Ok(fold::fold(superbubbles::way(table), table, *budget))
     })
-}
-
-/// Folding in turn by the second program itself.
-fn in_turn(seed: u64) -> Vec<(String, Fault)> {
-    let fold = |&(table, budget): &(&Table, u32)| -> Result<Folded, String> {
-        Ok(fold::fold(superbubbles::way(table), table, budget))
-    };
-    let faults =
-        turns::check(&fold_cases::turns(seed), &|questions| parallel::each(questions, fold));
-    let name = |place| format!("table {place} folded in turn");
-    faults.into_iter().enumerate().map(|(place, fault)| (name(place), fault)).collect()
 }

@@ -32,7 +32,7 @@ impl Superbubble {
     }
 }
 
-/// A way to answer what document 01 asks about a well-formed table.
+/// A way to answer what the rules ask about a well-formed table.
 pub struct Way {
     /// All superbubbles, by rising entrance.
     pub superbubbles: fn(&Table) -> Vec<Superbubble>,

@@ -1,5 +1,7 @@
-//! The table of document 01 as three slices that are lent, well-formed or not, and the numbers 1 to 7
-//! that it earns.
+//! The table of the rules (docs/RULES.md, The table) as three slices that are lent, well-formed or not,
+//! and the numbers 1 to 7 that it earns.
+
+use crate::parts::Part;
 
 pub const MOST_VERTICES: usize = 2_048;
 pub const MOST_EDGES: usize = 8_192;
@@ -18,6 +20,14 @@ pub fn number_given(faults: &[u32]) -> u32 {
 }
 
 impl Table {
+    pub fn parts(&self) -> Vec<Part> {
+        vec![
+            Part::slice("starts", &self.starts),
+            Part::slice("targets", &self.targets),
+            Part::slice("counts", &self.counts),
+        ]
+    }
+
     /// n, the length of starts less 1. There is none where starts is empty.
     pub fn vertices(&self) -> Option<usize> {
         self.starts.len().checked_sub(1)

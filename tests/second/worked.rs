@@ -1,6 +1,6 @@
-//! What document 01 works out itself about superbubbles, with answers written by hand: the twelve
-//! lists, pairs of the twelve graphs, the folds of J, K and L, and a case for each error that an analyst
-//! has met.
+//! What the rules work out themselves about superbubbles (docs/RULES.md, Twelve graphs and Worked
+//! folds), with answers written by hand: the twelve lists, pairs of the twelve graphs, the folds of J, K
+//! and L, and a case for each error that an analyst has met.
 
 use crate::answers;
 use crate::fold::Folded;

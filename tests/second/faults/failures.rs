@@ -1,7 +1,7 @@
 //! A fold of which one system call fails: what it prints, what it says and what it leaves must be
 //! true of each other. And one whose reads and writes are cut short, which nobody may notice.
 
-use crate::count::{difference, quoted};
+use crate::count::quoted;
 use crate::faults::calls::{Call, Deed};
 use crate::faults::checks::{check, demand, demand_none, Check, Judged};
 use crate::faults::folders::demand_same;
@@ -10,6 +10,7 @@ use crate::faults::scene::Rehearsed;
 use crate::faults::story::Step::{self, *};
 use crate::faults::traced::{Action, Ended};
 use crate::messages;
+use crate::parts::difference;
 
 pub const EIO: i64 = 5;
 pub const EACCES: i64 = 13;

@@ -1,10 +1,10 @@
 //! What a fold may leave and say: its answer, the files before and after, and the words about OUT.
 
-use crate::count;
 use crate::faults::checks::{demand, demand_none, Judged};
 use crate::faults::folders::{self, Files};
 use crate::faults::story::is_new;
 use crate::faults::traced::{End, Ended};
+use crate::parts::difference;
 use std::error::Error;
 
 pub struct Due {
@@ -67,7 +67,7 @@ impl Due {
     /// A run that ended by itself with the answer, and said nothing but the reason of a refusal.
     pub fn demand_answer(&self, ended: &Ended) -> Judged {
         demand_ended(ended)?;
-        demand_none(count::difference(self.text.as_bytes(), &ended.output))?;
+        demand_none(difference(self.text.as_bytes(), &ended.output))?;
         let lines = ended.errors.lines().count();
         let lines_due = if self.is_refused() { 1 } else { 0 };
         demand(lines == lines_due, || format!("beside its answer it says {:?}", ended.errors))
@@ -125,7 +125,7 @@ pub fn said(ended: &Ended) -> Result<Said, Box<dyn Error>> {
 /// A run that ended by itself without an answer, and said this.
 pub fn demand_message(ended: &Ended, due: Said) -> Judged {
     demand_ended(ended)?;
-    demand_none(count::difference(b"", &ended.output))?;
+    demand_none(difference(b"", &ended.output))?;
     let said = said(ended)?;
     demand(said == due, || format!("{due:?} is due, and it says {:?}", ended.errors))
 }

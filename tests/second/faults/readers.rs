@@ -1,7 +1,6 @@
 //! `show`, `list` and `judge` where a read or a write fails or is cut short: no answer is made of
 //! what could not be read, and nothing is printed after what could not be written.
 
-use crate::count::difference;
 use crate::faults::calls::Deed;
 use crate::faults::checks::{check, demand, demand_none, Check, Judged};
 use crate::faults::failures::ERRORS;
@@ -11,6 +10,7 @@ use crate::faults::traced::{self, nothing, only, Action, End, Ended, Plan, Start
 use crate::graphs;
 use crate::image;
 use crate::messages::{self, IS_CLOSED, IS_FOLDER};
+use crate::parts::difference;
 use crate::random::Random;
 use crate::runs::ProgramRun;
 use crate::shapes;

@@ -145,7 +145,7 @@ pub fn folded(stream: &[u8], budget: u32) -> (String, Option<Vec<u8>>) {
     (run.text().to_string(), written.map(|(_, image)| image.clone()))
 }
 
-/// A file with the image of a graph of document 01.
+/// A file with the image of one of the twelve graphs.
 pub fn of_letter(letter: &str) -> Entry {
     Entry::file(0o644, image::of_table(&lettered(letter).table()))
 }

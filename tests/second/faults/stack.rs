@@ -1,9 +1,9 @@
 //! The stack that each program needs, as docs/SHEET.md states it: the programs are run with no more.
 
-use crate::count::difference;
 use crate::faults::checks::{check, demand, demand_none, Check};
 use crate::faults::folders::{Entry, Files, Folder};
 use crate::image;
+use crate::parts::difference;
 use crate::runs::ProgramRun;
 use crate::shapes;
 use crate::sheet;

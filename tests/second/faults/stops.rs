@@ -1,13 +1,14 @@
 //! A fold that is stopped, at each of its system calls: it is killed and run again, or another one
 //! runs to its end meanwhile.
 
-use crate::count::{difference, quoted};
+use crate::count::quoted;
 use crate::faults::calls::{Call, Deed};
 use crate::faults::checks::{check, demand, demand_none, Check, Judged};
 use crate::faults::folders::{demand_same, Entry};
 use crate::faults::scene::{folded, Rehearsed, Scene};
 use crate::faults::story::Step;
 use crate::faults::traced::{only, Action, End};
+use crate::parts::difference;
 
 // ---- killed
 

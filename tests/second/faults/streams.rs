@@ -1,6 +1,5 @@
 //! Folds whose standard streams are closed, full or without a reader.
 
-use crate::count::difference;
 use crate::faults::calls::{Call, Deed};
 use crate::faults::checks::{check, demand_none, Check, Judged};
 use crate::faults::failures::{EIO, ENOSPC};
@@ -8,6 +7,7 @@ use crate::faults::folders::demand_same;
 use crate::faults::outcome::{demand_ended, demand_message, Said};
 use crate::faults::scene::Scene;
 use crate::faults::traced::{Action, End, Stream};
+use crate::parts::difference;
 
 // ---- closed
 

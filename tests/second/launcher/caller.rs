@@ -1,6 +1,7 @@
 //! Calls of `gohardim`, and what they leave.
 
-use crate::count::{difference, quoted};
+use crate::count::quoted;
+use crate::parts::difference;
 use std::error::Error;
 use std::io::{BufRead, BufReader, Read, Write};
 use std::os::unix::process::CommandExt;
