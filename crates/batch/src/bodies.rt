@@ -1,10 +1,13 @@
 // What a body asks for: the table that stands in it, with its counts or without, laid into the slices lent; and the lengths of the slices that a call is to fill.
-ghost use Prim.Native.Nat.{_≤_};
+ghost use Prim.Native.Nat.{_*_, _≤_};
 ghost use mathlib.Core.Path.{_≡_};
 ghost use lib.ListN.{length};
+ghost use Rattle.table.specs.Limits.{vertex-limit, edge-limit};
 use crate::bytes::number;
-use crate::bytes::read_longs;
-use crate::bytes::read_words;
+use crate::most::EDGES;
+use crate::most::VERTICES;
+use layout::read_longs;
+use layout::read_words;
 
 // Where a table lies: its starts before the place `starts`, its targets from there to the place `rows`, and so many counts. Where it does not fit, each is 0.
 pub struct Lent {
@@ -121,16 +124,16 @@ pub fn rooms(body: &[u8], at: usize) -> Room
     ensures { λ r.
         ⌜
         (r .rest ≤ length (now (body .entry)))
-        × (r .starts ≤ 4096)
-        × (r .targets ≤ 16384)
-        × (r .counts ≤ 4096)
+        × (r .starts ≤ 2 * vertex-limit)
+        × (r .targets ≤ 2 * edge-limit)
+        × (r .counts ≤ 2 * vertex-limit)
         ⌝ }
 {
     let starts = number(body, at) as usize;
     let targets = number(body, at + 4) as usize;
     let counts = number(body, at + 8) as usize;
     let rest = at + 12;
-    if body.len() < rest || starts > 4096 || targets > 16_384 || counts > 4096 {
+    if body.len() < rest || starts > VERTICES || targets > EDGES || counts > VERTICES {
         return no_rooms();
     }
     Room {

@@ -1,6 +1,7 @@
 // The operation `t`: the check of a table.
 ghost use Prim.Native.Nat.{_≤_};
 ghost use lib.ListN.{length};
+ghost use Rattle.text.specs.Buffer.{Place};
 use crate::bodies::Lent;
 use crate::bodies::lay;
 use crate::puts::put_named;
@@ -33,9 +34,9 @@ fn check_both(lent: Lent, words: &[u32], counts: &[u64]) -> Checked
 }
 
 // Puts both numbers.
-fn put_checked(out: &mut [u8; 4096], at: usize, checked: Checked) -> usize
-    requires { ⌜ at ≤ 4097 ⌝ }
-    ensures { λ r. ⌜ r ≤ 4097 ⌝ }
+fn put_checked(out: &mut [u8; text::BUFFER], at: usize, checked: Checked) -> usize
+    requires { ⌜ Place at ⌝ }
+    ensures { λ r. ⌜ Place r ⌝ }
 {
     let mut place = put_named(out, at, b"check", checked.without);
     place = put_named(out, place, b" counted", checked.counted);
@@ -44,14 +45,14 @@ fn put_checked(out: &mut [u8; 4096], at: usize, checked: Checked) -> usize
 
 // The operation `t`: three lengths, then starts, targets and counts.
 pub fn check_case(
-    out: &mut [u8; 4096],
+    out: &mut [u8; text::BUFFER],
     at: usize,
     body: &[u8],
     words: &mut [u32],
     counts: &mut [u64],
 ) -> Step
-    requires { ⌜ at ≤ 4097 ⌝ }
-    ensures { λ r. ⌜ r .place ≤ 4097 ⌝ }
+    requires { ⌜ Place at ⌝ }
+    ensures { λ r. ⌜ Place (r .place) ⌝ }
 {
     let lent = lay(body, 0, words, counts);
     if !lent.fit {

@@ -1,11 +1,14 @@
 // The operation `f`: a table folded.
 ghost use Prim.Native.Nat.{_≤_};
 ghost use lib.ListN.{length};
+ghost use Rattle.text.specs.Buffer.{Place};
 use crate::bodies::Lent;
 use crate::bodies::Room;
 use crate::bodies::lay;
 use crate::bodies::rooms;
 use crate::bytes::number;
+use crate::most::EDGES;
+use crate::most::VERTICES;
 use crate::puts::put_head;
 use crate::puts::put_slices;
 use crate::step::Step;
@@ -14,7 +17,7 @@ use crate::step::bad_case;
 
 // Folds a table into the second set of slices, and puts the answer and these as the call left them.
 fn put_folded(
-    out: &mut [u8; 4096],
+    out: &mut [u8; text::BUFFER],
     at: usize,
     budget: u32,
     starts: &[u32],
@@ -24,8 +27,8 @@ fn put_folded(
     targets2: &mut [u32],
     counts2: &mut [u64],
 ) -> usize
-    requires { ⌜ at ≤ 4097 ⌝ }
-    ensures { λ r. ⌜ r ≤ 4097 ⌝ }
+    requires { ⌜ Place at ⌝ }
+    ensures { λ r. ⌜ Place r ⌝ }
 {
     let folded = folding::fold(starts, targets, counts, budget, starts2, targets2, counts2);
     let mut place = put_head(out, at, b"fold", folded.number, folded.folded);
@@ -36,7 +39,7 @@ fn put_folded(
 
 // Lends to it the table, and so much of the second set as the rooms say.
 fn fold_rooms(
-    out: &mut [u8; 4096],
+    out: &mut [u8; text::BUFFER],
     at: usize,
     budget: u32,
     room: Room,
@@ -48,7 +51,7 @@ fn fold_rooms(
     counts2: &mut [u64],
 ) -> usize
     requires { ⌜
-        (at ≤ 4097)
+        (Place at)
         × (room .starts ≤ length (now starts2))
         × (room .targets ≤ length (now targets2))
         × (room .counts ≤ length (now counts2))
@@ -56,7 +59,7 @@ fn fold_rooms(
         × (lent .rows ≤ length (now words))
         × (lent .counts ≤ length (now counts))
         ⌝ }
-    ensures { λ r. ⌜ r ≤ 4097 ⌝ }
+    ensures { λ r. ⌜ Place r ⌝ }
 {
     let a = lent.starts;
     let e = lent.rows;
@@ -79,14 +82,14 @@ fn fold_rooms(
 
 // The operation `f`: the budget, the rooms of the second set of slices, whose numbers are all 7, three lengths, then starts, targets and counts.
 pub fn fold_case(
-    out: &mut [u8; 4096],
+    out: &mut [u8; text::BUFFER],
     at: usize,
     body: &[u8],
     words: &mut [u32],
     counts: &mut [u64],
 ) -> Step
-    requires { ⌜ at ≤ 4097 ⌝ }
-    ensures { λ r. ⌜ r .place ≤ 4097 ⌝ }
+    requires { ⌜ Place at ⌝ }
+    ensures { λ r. ⌜ Place (r .place) ⌝ }
 {
     let room = rooms(body, 4);
     let lent = lay(body, 16, words, counts);
@@ -94,9 +97,9 @@ pub fn fold_case(
         return bad_case(out, at);
     }
     let budget = number(body, 0);
-    let mut starts2 = [7u32; 4096];
-    let mut targets2 = [7u32; 16_384];
-    let mut counts2 = [7u64; 4096];
+    let mut starts2 = [7u32; VERTICES];
+    let mut targets2 = [7u32; EDGES];
+    let mut counts2 = [7u64; VERTICES];
     answered(fold_rooms(
         out,
         at,

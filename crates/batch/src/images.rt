@@ -1,38 +1,40 @@
 // The operations `s`, `w` and `r`: an image shown, written and read.
 ghost use Prim.Native.Nat.{_≤_};
 ghost use lib.ListN.{length};
+ghost use Rattle.text.specs.Buffer.{Place};
 use crate::bodies::Lent;
 use crate::bodies::Room;
 use crate::bodies::lay;
 use crate::bodies::rooms;
 use crate::bytes::number;
+use crate::most::EDGES;
+use crate::most::IMAGE;
+use crate::most::VERTICES;
 use crate::puts::put_head;
 use crate::puts::put_slices;
 use crate::step::Step;
 use crate::step::answered;
 use crate::step::bad_case;
-
-// The longest stream of a case: what the program `show` reads at most.
-const MOST: usize = image::Header::LARGEST + 1;
+use layout::Header;
 
 // The operation `s`: a stream.
-pub fn show_case(out: &mut [u8; 4096], at: usize, body: &[u8]) -> Step
-    requires { ⌜ at ≤ 4097 ⌝ }
-    ensures { λ r. ⌜ r .place ≤ 4097 ⌝ }
+pub fn show_case(out: &mut [u8; text::BUFFER], at: usize, body: &[u8]) -> Step
+    requires { ⌜ Place at ⌝ }
+    ensures { λ r. ⌜ Place (r .place) ⌝ }
 {
-    if body.len() > MOST {
+    if body.len() > Header::STREAM {
         return bad_case(out, at);
     }
-    let mut starts = [0u32; 4096];
-    let mut targets = [0u32; 16_384];
-    let mut counts = [0u64; 4096];
+    let mut starts = [0u32; VERTICES];
+    let mut targets = [0u32; EDGES];
+    let mut counts = [0u64; VERTICES];
     let answer = report::show_with(out, at, body, &mut starts, &mut targets, &mut counts);
     answered(answer.place)
 }
 
 // Writes the image of a table into so much of the slice as the room says, and puts the answer and that much as the call left it.
 fn put_written(
-    out: &mut [u8; 4096],
+    out: &mut [u8; text::BUFFER],
     at: usize,
     room: usize,
     lent: Lent,
@@ -41,18 +43,18 @@ fn put_written(
     image: &mut [u8],
 ) -> usize
     requires { ⌜
-        (at ≤ 4097)
+        (Place at)
         × (room ≤ length (now image))
         × (lent .starts ≤ lent .rows)
         × (lent .rows ≤ length (now words))
         × (lent .counts ≤ length (now counts))
         ⌝ }
-    ensures { λ r. ⌜ r ≤ 4097 ⌝ }
+    ensures { λ r. ⌜ Place r ⌝ }
 {
     let a = lent.starts;
     let e = lent.rows;
     let c = lent.counts;
-    let extent = image::write(
+    let extent = writing::write(
         &words[0..a],
         &words[a..e],
         &counts[0..c],
@@ -66,27 +68,27 @@ fn put_written(
 
 // The operation `w`: the room of the image slice, whose bytes are all 165, three lengths, then starts, targets and counts.
 pub fn write_case(
-    out: &mut [u8; 4096],
+    out: &mut [u8; text::BUFFER],
     at: usize,
     body: &[u8],
     words: &mut [u32],
     counts: &mut [u64],
 ) -> Step
-    requires { ⌜ at ≤ 4097 ⌝ }
-    ensures { λ r. ⌜ r .place ≤ 4097 ⌝ }
+    requires { ⌜ Place at ⌝ }
+    ensures { λ r. ⌜ Place (r .place) ⌝ }
 {
     let room = number(body, 0) as usize;
     let lent = lay(body, 4, words, counts);
-    if room > 65_536 || !lent.fit {
+    if room > IMAGE || !lent.fit {
         return bad_case(out, at);
     }
-    let mut image = [165u8; 65_536];
+    let mut image = [165u8; IMAGE];
     answered(put_written(out, at, room, lent, words, counts, &mut image))
 }
 
 // Reads an image into so much of the slices as the rooms say, and puts the answer and that much as the call left it.
 fn put_read(
-    out: &mut [u8; 4096],
+    out: &mut [u8; text::BUFFER],
     at: usize,
     stream: &[u8],
     room: Room,
@@ -95,12 +97,12 @@ fn put_read(
     counts: &mut [u64],
 ) -> usize
     requires { ⌜
-        (at ≤ 4097)
+        (Place at)
         × (room .starts ≤ length (now starts))
         × (room .targets ≤ length (now targets))
         × (room .counts ≤ length (now counts))
         ⌝ }
-    ensures { λ r. ⌜ r ≤ 4097 ⌝ }
+    ensures { λ r. ⌜ Place r ⌝ }
 {
     let a = room.starts;
     let b = room.targets;
@@ -117,18 +119,18 @@ fn put_read(
 }
 
 // The operation `r`: the rooms of the three slices, whose numbers are all 7, then a stream.
-pub fn read_case(out: &mut [u8; 4096], at: usize, body: &[u8]) -> Step
-    requires { ⌜ at ≤ 4097 ⌝ }
-    ensures { λ r. ⌜ r .place ≤ 4097 ⌝ }
+pub fn read_case(out: &mut [u8; text::BUFFER], at: usize, body: &[u8]) -> Step
+    requires { ⌜ Place at ⌝ }
+    ensures { λ r. ⌜ Place (r .place) ⌝ }
 {
     let room = rooms(body, 0);
     let rest = room.rest;
-    if !room.fit || body.len() - rest > MOST {
+    if !room.fit || body.len() - rest > Header::STREAM {
         return bad_case(out, at);
     }
-    let mut starts = [7u32; 4096];
-    let mut targets = [7u32; 16_384];
-    let mut counts = [7u64; 4096];
+    let mut starts = [7u32; VERTICES];
+    let mut targets = [7u32; EDGES];
+    let mut counts = [7u64; VERTICES];
     answered(put_read(
         out,
         at,

@@ -1,9 +1,11 @@
 // The operations `l` and `j`: the superbubbles of a table listed, and one pair judged.
 ghost use Prim.Native.Nat.{_≤_};
 ghost use lib.ListN.{length};
+ghost use Rattle.text.specs.Buffer.{Place};
 use crate::bodies::Lent;
 use crate::bodies::lay_rows;
 use crate::bytes::number;
+use crate::most::LIST;
 use crate::puts::put_head;
 use crate::puts::put_words;
 use crate::step::Step;
@@ -12,7 +14,7 @@ use crate::step::bad_case;
 
 // Lists the superbubbles of a table into so much of the slice as the room says, and puts the answer and that much as the call left it.
 fn put_listed(
-    out: &mut [u8; 4096],
+    out: &mut [u8; text::BUFFER],
     at: usize,
     room: usize,
     lent: Lent,
@@ -20,12 +22,12 @@ fn put_listed(
     list: &mut [u32],
 ) -> usize
     requires { ⌜
-        (at ≤ 4097)
+        (Place at)
         × (room ≤ length (now list))
         × (lent .starts ≤ lent .rows)
         × (lent .rows ≤ length (now words))
         ⌝ }
-    ensures { λ r. ⌜ r ≤ 4097 ⌝ }
+    ensures { λ r. ⌜ Place r ⌝ }
 {
     let a = lent.starts;
     let e = lent.rows;
@@ -37,32 +39,32 @@ fn put_listed(
 }
 
 // The operation `l`: the room of the list slice, whose numbers are all 7, two lengths, then starts and targets.
-pub fn list_case(out: &mut [u8; 4096], at: usize, body: &[u8], words: &mut [u32]) -> Step
-    requires { ⌜ at ≤ 4097 ⌝ }
-    ensures { λ r. ⌜ r .place ≤ 4097 ⌝ }
+pub fn list_case(out: &mut [u8; text::BUFFER], at: usize, body: &[u8], words: &mut [u32]) -> Step
+    requires { ⌜ Place at ⌝ }
+    ensures { λ r. ⌜ Place (r .place) ⌝ }
 {
     let room = number(body, 0) as usize;
     let lent = lay_rows(body, 4, words);
-    if room > 8192 || !lent.fit {
+    if room > LIST || !lent.fit {
         return bad_case(out, at);
     }
-    let mut list = [7u32; 8192];
+    let mut list = [7u32; LIST];
     answered(put_listed(out, at, room, lent, words, &mut list))
 }
 
 // Judges one pair of a table.
-fn judge_lent(lent: Lent, words: &[u32], s: u32, t: u32) -> listing::Judgement
+fn judge_lent(lent: Lent, words: &[u32], s: u32, t: u32) -> judging::Judgement
     requires { ⌜ (lent .starts ≤ lent .rows) × (lent .rows ≤ length (now words)) ⌝ }
 {
     let a = lent.starts;
     let e = lent.rows;
-    listing::judge(&words[0..a], &words[a..e], s, t)
+    judging::judge(&words[0..a], &words[a..e], s, t)
 }
 
 // Puts what judging answered.
-fn put_judged(out: &mut [u8; 4096], at: usize, judged: listing::Judgement) -> usize
-    requires { ⌜ at ≤ 4097 ⌝ }
-    ensures { λ r. ⌜ r ≤ 4097 ⌝ }
+fn put_judged(out: &mut [u8; text::BUFFER], at: usize, judged: judging::Judgement) -> usize
+    requires { ⌜ Place at ⌝ }
+    ensures { λ r. ⌜ Place r ⌝ }
 {
     let mut place = put_head(out, at, b"judge", judged.number, judged.yes as usize);
     place = text::next_number(out, place, judged.size as u64);
@@ -70,9 +72,9 @@ fn put_judged(out: &mut [u8; 4096], at: usize, judged: listing::Judgement) -> us
 }
 
 // The operation `j`: the pair, two lengths, then starts and targets.
-pub fn judge_case(out: &mut [u8; 4096], at: usize, body: &[u8], words: &mut [u32]) -> Step
-    requires { ⌜ at ≤ 4097 ⌝ }
-    ensures { λ r. ⌜ r .place ≤ 4097 ⌝ }
+pub fn judge_case(out: &mut [u8; text::BUFFER], at: usize, body: &[u8], words: &mut [u32]) -> Step
+    requires { ⌜ Place at ⌝ }
+    ensures { λ r. ⌜ Place (r .place) ⌝ }
 {
     let lent = lay_rows(body, 8, words);
     if !lent.fit {

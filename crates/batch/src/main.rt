@@ -7,12 +7,14 @@ mod checks;
 mod folds;
 mod images;
 mod lists;
+mod most;
 mod puts;
 mod step;
 
 ghost use Prim.Native.Nat.{_≤_, _<_};
 ghost use mathlib.Core.Path.{_≡_};
 ghost use lib.ListN.{length};
+ghost use Rattle.text.specs.Buffer.{Place};
 use bytes::number;
 use checks::check_case;
 use folds::fold_case;
@@ -21,6 +23,9 @@ use images::show_case;
 use images::write_case;
 use lists::judge_case;
 use lists::list_case;
+use most::BODY;
+use most::EDGES;
+use most::VERTICES;
 use step::Step;
 use step::bad_case;
 use step::last;
@@ -85,15 +90,15 @@ fn next_case(body: &mut [u8]) -> Case
 
 // Answers a case.
 fn answer(
-    out: &mut [u8; 4096],
+    out: &mut [u8; text::BUFFER],
     at: usize,
     operation: u8,
     body: &[u8],
     words: &mut [u32],
     counts: &mut [u64],
 ) -> Step
-    requires { ⌜ at ≤ 4097 ⌝ }
-    ensures { λ r. ⌜ r .place ≤ 4097 ⌝ }
+    requires { ⌜ Place at ⌝ }
+    ensures { λ r. ⌜ Place (r .place) ⌝ }
 {
     match operation {
         b's' => show_case(out, at, body),
@@ -109,14 +114,14 @@ fn answer(
 
 // Reads and answers one case, or finds the input at its end.
 fn one_case(
-    out: &mut [u8; 4096],
+    out: &mut [u8; text::BUFFER],
     at: usize,
     body: &mut [u8],
     words: &mut [u32],
     counts: &mut [u64],
 ) -> Step
-    requires { ⌜ at ≤ 4097 ⌝ }
-    ensures { λ r. ⌜ r .place ≤ 4097 ⌝ }
+    requires { ⌜ Place at ⌝ }
+    ensures { λ r. ⌜ Place (r .place) ⌝ }
 {
     let case = next_case(body);
     if !case.more {
@@ -135,7 +140,7 @@ fn turns_left(turns: u64, more: bool) -> u64
 }
 
 // Answers every case, and writes out what is left. A proved loop has to end, and nothing says that the input does: so it counts its turns down, from a number that no run uses up.
-fn all_cases(out: &mut [u8; 4096], body: &mut [u8], words: &mut [u32], counts: &mut [u64]) {
+fn all_cases(out: &mut [u8; text::BUFFER], body: &mut [u8], words: &mut [u32], counts: &mut [u64]) {
     let mut turns = u64::MAX;
     let mut at = 0;
     while turns > 0 {
@@ -148,8 +153,8 @@ fn all_cases(out: &mut [u8; 4096], body: &mut [u8], words: &mut [u32], counts: &
 
 fn main() {
     let mut out = io::buffer();
-    let mut body = [0u8; 131_072];
-    let mut words = [0u32; 20_480];
-    let mut counts = [0u64; 4096];
+    let mut body = [0u8; BODY];
+    let mut words = [0u32; VERTICES + EDGES];
+    let mut counts = [0u64; VERTICES];
     all_cases(&mut out, &mut body, &mut words, &mut counts);
 }

@@ -1,28 +1,35 @@
 // What a case puts into the output: the line of its answer, and all numbers of the slices lent.
 ghost use Prim.Native.Nat.{_≤_};
+ghost use Rattle.text.specs.Buffer.{Place};
 
 // Puts a name and a number.
-pub fn put_named(out: &mut [u8; 4096], at: usize, name: &[u8], number: u32) -> usize
-    requires { ⌜ at ≤ 4097 ⌝ }
-    ensures { λ r. ⌜ r ≤ 4097 ⌝ }
+pub fn put_named(out: &mut [u8; text::BUFFER], at: usize, name: &[u8], number: u32) -> usize
+    requires { ⌜ Place at ⌝ }
+    ensures { λ r. ⌜ Place r ⌝ }
 {
     let place = text::word(out, at, name);
     text::next_number(out, place, number as u64)
 }
 
 // Puts the name of an answer, its number, and the number that follows.
-pub fn put_head(out: &mut [u8; 4096], at: usize, name: &[u8], number: u32, next: usize) -> usize
-    requires { ⌜ at ≤ 4097 ⌝ }
-    ensures { λ r. ⌜ r ≤ 4097 ⌝ }
+pub fn put_head(
+    out: &mut [u8; text::BUFFER],
+    at: usize,
+    name: &[u8],
+    number: u32,
+    next: usize,
+) -> usize
+    requires { ⌜ Place at ⌝ }
+    ensures { λ r. ⌜ Place r ⌝ }
 {
     let place = put_named(out, at, name, number);
     text::next_number(out, place, next as u64)
 }
 
 // Puts a number in four bytes.
-fn put_word(out: &mut [u8; 4096], at: usize, x: u64) -> usize
-    requires { ⌜ at ≤ 4097 ⌝ }
-    ensures { λ r. ⌜ r ≤ 4097 ⌝ }
+fn put_word(out: &mut [u8; text::BUFFER], at: usize, x: u64) -> usize
+    requires { ⌜ Place at ⌝ }
+    ensures { λ r. ⌜ Place r ⌝ }
 {
     let mut place = text::byte(out, at, (x % 256) as u8);
     place = text::byte(out, place, (x / 256 % 256) as u8);
@@ -31,9 +38,9 @@ fn put_word(out: &mut [u8; 4096], at: usize, x: u64) -> usize
 }
 
 // Puts each number in four bytes.
-pub fn put_words(out: &mut [u8; 4096], at: usize, numbers: &[u32]) -> usize
-    requires { ⌜ at ≤ 4097 ⌝ }
-    ensures { λ r. ⌜ r ≤ 4097 ⌝ }
+pub fn put_words(out: &mut [u8; text::BUFFER], at: usize, numbers: &[u32]) -> usize
+    requires { ⌜ Place at ⌝ }
+    ensures { λ r. ⌜ Place r ⌝ }
 {
     let mut place = at;
     let mut k = 0;
@@ -45,9 +52,9 @@ pub fn put_words(out: &mut [u8; 4096], at: usize, numbers: &[u32]) -> usize
 }
 
 // Puts each number in eight bytes.
-pub fn put_longs(out: &mut [u8; 4096], at: usize, numbers: &[u64]) -> usize
-    requires { ⌜ at ≤ 4097 ⌝ }
-    ensures { λ r. ⌜ r ≤ 4097 ⌝ }
+pub fn put_longs(out: &mut [u8; text::BUFFER], at: usize, numbers: &[u64]) -> usize
+    requires { ⌜ Place at ⌝ }
+    ensures { λ r. ⌜ Place r ⌝ }
 {
     let mut place = at;
     let mut k = 0;
@@ -62,14 +69,14 @@ pub fn put_longs(out: &mut [u8; 4096], at: usize, numbers: &[u64]) -> usize
 
 // Ends a line, and puts each number of the three slices.
 pub fn put_slices(
-    out: &mut [u8; 4096],
+    out: &mut [u8; text::BUFFER],
     at: usize,
     starts: &[u32],
     targets: &[u32],
     counts: &[u64],
 ) -> usize
-    requires { ⌜ at ≤ 4097 ⌝ }
-    ensures { λ r. ⌜ r ≤ 4097 ⌝ }
+    requires { ⌜ Place at ⌝ }
+    ensures { λ r. ⌜ Place r ⌝ }
 {
     let mut place = text::byte(out, at, b'\n');
     place = put_words(out, place, starts);

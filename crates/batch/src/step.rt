@@ -1,6 +1,7 @@
 // What a case leaves: whether another may follow, and where the next byte of the output goes.
 ghost use Prim.Native.Nat.{_≤_};
 ghost use mathlib.Core.Path.{_≡_};
+ghost use Rattle.text.specs.Buffer.{Place};
 
 pub struct Step {
     pub more: bool,
@@ -28,9 +29,9 @@ pub fn last(at: usize) -> Step
 }
 
 // A case that cannot be answered.
-pub fn bad_case(out: &mut [u8; 4096], at: usize) -> Step
-    requires { ⌜ at ≤ 4097 ⌝ }
-    ensures { λ r. ⌜ r .place ≤ 4097 ⌝ }
+pub fn bad_case(out: &mut [u8; text::BUFFER], at: usize) -> Step
+    requires { ⌜ Place at ⌝ }
+    ensures { λ r. ⌜ Place (r .place) ⌝ }
 {
     last(text::word(out, at, b"bad case\n"))
 }

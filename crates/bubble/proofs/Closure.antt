@@ -7,7 +7,8 @@ use mathlib.Core.List.{List, [], _∷_, _++_, append-nil, List·Memᴰ, List·Me
 use native.Mathlib.Omega.{arith}
 use lib.ListN.{length, length-append}
 use Rattle.bubble.specs.Superbubble.{Walk, Walk.edge, Walk.more}
-use Rattle.bubble.proofs.Pigeonhole.{Distinct, distinct-below, distinct-append, upto, distinct-upto, in-upto}
+use Rattle.bubble.specs.Distinct.{Distinct}
+use Rattle.bubble.proofs.Pigeonhole.{distinct-below, distinct-append, upto, distinct-upto, in-upto}
 use Rattle.bubble.proofs.Reflect.{Decides, decided, decides-if, decides-not, decides-and, member, decides-member, sift, in-sift, of-sift, distinct-sift}
 
 -- the steps from u that are not in seen

@@ -14,7 +14,8 @@ pub record Placed (place : ℕ → ℕ) (k v : ℕ) : Type 0 where
   pub bound : at ≤ k
   pub same : place at ≡ v
 
--- the places 0 to k hold different vertices; those before k have their children among the places, at least one, and those after 0 their parents at places before, at least one; no edge leads back to place 0
+-- the places 0 to k hold different vertices; those before k have their children among the places, at least one,
+-- and those after 0 their parents at places before, at least one; no edge leads back to place 0
 pub record Rising (E : ℕ → ℕ → Type 0) (place : ℕ → ℕ) (k : ℕ) : Type 0 where
   pub several : 0 < k
   pub apart : (i j : ℕ) → i ≤ k → j ≤ k → place i ≡ place j → i ≡ j

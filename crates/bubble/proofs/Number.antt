@@ -8,7 +8,8 @@ use lib.ListN.{length, length-map}
 use Rattle.bubble.specs.Superbubble.{F, F.start, Bubbloid, Superbubble, Interior}
 use Rattle.bubble.proofs.Facts.{last-edge, exit-inside, predecessor, successor}
 use Rattle.bubble.proofs.Unique.{exit-unique}
-use Rattle.bubble.proofs.Pigeonhole.{Distinct, distinct-below, distinct-map}
+use Rattle.bubble.specs.Distinct.{Distinct}
+use Rattle.bubble.proofs.Pigeonhole.{distinct-below, distinct-map}
 
 -- every edge of E joins numbers below n
 abbrev pub Below : (ℕ → ℕ → Type 0) → ℕ → Type 0

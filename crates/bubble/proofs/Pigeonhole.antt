@@ -7,11 +7,7 @@ use native.Mathlib.Nat.{lt-irrefl}
 use native.Mathlib.Omega.{arith}
 use native.Mathlib.Decide.{ℕ-discrete}
 use lib.ListN.{length, getD, length-map}
-
--- pairwise different entries
-pub data Distinct {A : Type 0} : List A → Type 0 where
-  empty : Distinct []
-  fresh : {a : A} {l : List A} → (List·Memᴰ a l → ⊥) → Distinct l → Distinct (a ∷ l)
+use Rattle.bubble.specs.Distinct.{Distinct, Distinct.empty, Distinct.fresh}
 
 -- the numbers below n
 unfoldable pub upto : ℕ → List ℕ

@@ -5,7 +5,7 @@ use mathlib.Core.Logic.{_↔_, _⊎_, inl, inr, ⊎-elim, ⊎-map}
 use mathlib.Core.Bool.{Bool, true, false, not, _&&_, _||_}
 use mathlib.Core.List.{List, [], _∷_, List·Memᴰ, List·Memᴰ·head, List·Memᴰ·tail, List·Memᴰ·not-nil, List·Memᴰ·cases-cons}
 use lib.Dec.{T, eqb, ltb, eqb→eq, eqb-refl, ltb→lt, lt→ltb}
-use Rattle.bubble.proofs.Pigeonhole.{Distinct, Distinct.empty, Distinct.fresh}
+use Rattle.bubble.specs.Distinct.{Distinct, Distinct.empty, Distinct.fresh}
 
 -- the test answers whether P holds
 pub data Decides (P : Type 0) : Bool → Type 0 where
@@ -83,7 +83,9 @@ every p (x ∷ xs) = let rest = every p xs in p x && rest
 pub decides-every : {P : ℕ → Type 0} {p : ℕ → Bool} → ((v : ℕ) → Decides (P v) (p v)) → (l : List ℕ) → Decides ((v : ℕ) → List·Memᴰ v l → P v) (every p l)
 unfolding every
 decides-every d [] = holds (λ v m. absurd (List·Memᴰ·not-nil m))
-decides-every {P} d (x ∷ xs) = decides-if (λ h v m. ⊎-elim (λ q. rw q (h .0)) (h .1 v) (List·Memᴰ·cases-cons m), λ h. (h x (List·Memᴰ·head refl), λ v m. h v (List·Memᴰ·tail m))) (decides-and (d x) (decides-every d xs))
+decides-every {P} d (x ∷ xs) =
+    decides-if (λ h v m. ⊎-elim (λ q. rw q (h .0)) (h .1 v) (List·Memᴰ·cases-cons m), λ h. (h x (List·Memᴰ·head refl), λ v m. h v (List·Memᴰ·tail m)))
+    (decides-and (d x) (decides-every d xs))
 
 put : Bool → ℕ → List ℕ → List ℕ
 put true x l = x ∷ l

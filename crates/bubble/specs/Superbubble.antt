@@ -1,4 +1,4 @@
--- The published definition of a superbubble (source document 002, Definition 1), over any edge relation E: `E u v` says that there is an edge from u to v.
+-- The published definition of a superbubble (docs/RULES.md, The definition), over any edge relation E: `E u v` says that there is an edge from u to v.
 -- This page is what a reader has to believe. Assumes nothing.
 use Prim.Native.Nat.{ℕ}
 use mathlib.Core.Path.{_≡_}

@@ -1,5 +1,7 @@
 // The library's calls for a C program: list, judge and fold. The number is returned, and each other field is handed out through a lent number.
-ghost use Rattle.listing.specs.Listing.{JudgeDone, ListDone};
+ghost use Rattle.listing.specs.Listing.{ListDone};
+ghost use Rattle.judging.specs.Judging.{JudgeDone};
+ghost use Rattle.rule.specs.Way.{the-fold};
 ghost use Rattle.folding.specs.Folding.{FoldDone};
 
 // Lists the superbubbles of a table at the front of a lent slice, and hands out how many were found.
@@ -11,7 +13,10 @@ pub extern "C" fn gohardim_list(
     found: &mut usize,
 ) -> u32
     ensures { λ r.
-        ⌜ ListDone (now (starts .entry)) (now (targets .entry)) (now (out .entry)) (now (out .exit)) r (now (found .exit)) ⌝ }
+        ⌜
+        ListDone (record { starts = now (starts .entry); targets = now (targets .entry) }) (now (out .entry)) (now (out .exit))
+        (record { number = r; found = now (found .exit) })
+        ⌝ }
 {
     let answer = listing::list(starts, targets, out);
     *found = answer.found;
@@ -29,9 +34,12 @@ pub extern "C" fn gohardim_judge(
     size: &mut u32,
 ) -> u32
     ensures { λ r.
-        ⌜ JudgeDone (now (starts .entry)) (now (targets .entry)) s t r (now (yes .exit)) (now (size .exit)) ⌝ }
+        ⌜
+        JudgeDone (record { starts = now (starts .entry); targets = now (targets .entry) }) s t
+        (record { number = r; yes = now (yes .exit); size = now (size .exit) })
+        ⌝ }
 {
-    let answer = listing::judge(starts, targets, s, t);
+    let answer = judging::judge(starts, targets, s, t);
     *yes = answer.yes;
     *size = answer.size;
     answer.number
@@ -52,7 +60,15 @@ pub extern "C" fn gohardim_fold(
     edges: &mut usize,
 ) -> u32
     ensures { λ r.
-        ⌜ FoldDone (now (starts .entry)) (now (targets .entry)) (now (counts .entry)) budget (now (starts2 .entry)) (now (targets2 .entry)) (now (counts2 .entry)) (now (starts2 .exit)) (now (targets2 .exit)) (now (counts2 .exit)) r (now (folded .exit)) (now (left .exit)) (now (edges .exit)) ⌝ }
+        ⌜
+        FoldDone
+        the-fold
+        (record { rows = record { starts = now (starts .entry); targets = now (targets .entry) }; counts = now (counts .entry) })
+        budget
+        (record { rows = record { starts = now (starts2 .entry); targets = now (targets2 .entry) }; counts = now (counts2 .entry) })
+        (record { rows = record { starts = now (starts2 .exit); targets = now (targets2 .exit) }; counts = now (counts2 .exit) })
+        (record { number = r; folded = now (folded .exit); left = now (left .exit); edges = now (edges .exit) })
+        ⌝ }
 {
     let answer = folding::fold(starts, targets, counts, budget, starts2, targets2, counts2);
     *folded = answer.folded;

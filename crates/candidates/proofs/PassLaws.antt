@@ -13,14 +13,24 @@ use Rattle.bubble.specs.Superbubble.{Interior, Superbubble}
 use Rattle.bubble.proofs.Nesting.{nest, outermost-by-entrance}
 use Rattle.bubble.proofs.Number.{Below, entrance-below}
 use Rattle.bubble.proofs.Unique.{exit-unique}
-use Rattle.search.proofs.OccurrenceLaws.{in-decided}
-use Rattle.rule.specs.Lists.{Graph}
+use Rattle.parents.proofs.OccurrenceLaws.{in-decided}
+use Rattle.rule.specs.Lists.{Graph, CandidateSet}
 use Rattle.rule.specs.Fold.{Candidate}
 use Rattle.candidates.specs.Steps.{RuledOut, Filled, Enclosed, Passed}
 
--- what is interior to a superbubble begins no candidate
-enclosed-none : {E : Graph} {s v t : ℕ} → Enclosed E s v → Candidate E v t → ⊥
-enclosed-none e c = outermost-by-entrance .0 (c .outermost) .1 (e .entrance) (e .exit) (e .superbubble) (e .inside)
+-- what the scan asks of candidates: they are the superbubbles with an interior whose entrance is interior to no superbubble
+pub record ByEntrance (C : CandidateSet) : Type 1 where
+  pub filled : {E : Graph} {s t : ℕ} → C E s t → Filled E s t
+  pub free : {E : Graph} {s t x y : ℕ} → C E s t → Superbubble E x y → Interior E x y s → ⊥
+  pub all : {E : Graph} {s t : ℕ} → Filled E s t → ((x y : ℕ) → Superbubble E x y → Interior E x y s → ⊥) → C E s t
+
+-- those of docs/RULES.md, Fold, are
+pub candidate-by-entrance : ByEntrance Candidate
+candidate-by-entrance = record {
+  filled = λ c. record { superbubble = c .outermost .superbubble; interior = c .interior };
+  free = λ {E} {s} {t} {x} {y} c. outermost-by-entrance .0 (c .outermost) .1 x y;
+  all = λ f free. record { outermost = outermost-by-entrance .1 (f .superbubble, free); interior = f .interior };
+}
 
 later : {E : Graph} {s v : ℕ} → Enclosed E s v → Enclosed E (s + 1) v
 later e = record { entrance = e .entrance; exit = e .exit; passed = omega (arith, e .passed); superbubble = e .superbubble; inside = e .inside }
@@ -40,7 +50,7 @@ wider {v = v} around p i =
     }
 
 -- nothing is passed yet, and nothing ruled out
-pub pass-start : {E : Graph} {n : ℕ} (exits : List ℕ) → length exits ≡ n → ((v : ℕ) → getD exits v 0 ≡ 0) → Passed E n 0 exits
+pub pass-start : {C : CandidateSet} {E : Graph} {n : ℕ} (exits : List ℕ) → length exits ≡ n → ((v : ℕ) → getD exits v 0 ≡ 0) → Passed C E n 0 exits
 pass-start exits long zeros = record {
   each = long;
   taken = λ v l m. absurd (let no : ⊥ = omega arith in no);
@@ -49,9 +59,13 @@ pass-start exits long zeros = record {
   enclosed = λ v l m q. absurd (let no : ⊥ = omega (arith, zeros v) in no);
 }
 
-module _ {E : Graph} {n s : ℕ} {exits : List ℕ} (p : Passed E n s exits) (here : s < n) where
+module _ {C : CandidateSet} (B : ByEntrance C) {E : Graph} {n s : ℕ} {exits : List ℕ} (p : Passed C E n s exits) (here : s < n) where
+  -- what is interior to a superbubble begins no candidate
+  enclosed-none : {x v t : ℕ} → Enclosed E x v → C E v t → ⊥
+  enclosed-none e c = B .free c (e .superbubble) (e .inside)
+
   -- s is ruled out
-  pub pass-ruled : getD exits s 0 ≡ n → Passed E n (s + 1) exits
+  pub pass-ruled : getD exits s 0 ≡ n → Passed C E n (s + 1) exits
   pass-ruled q = record {
     each = p .each;
     taken = λ v l m. elim (ℕ-discrete v s) [ yes e ↦ absurd (m (rw e q)) | no k ↦ p .taken v (omega arith) m ];
@@ -67,7 +81,7 @@ module _ {E : Graph} {n s : ℕ} {exits : List ℕ} (p : Passed E n s exits) (he
       around = p .enclosed s (le-refl s) here q
 
   -- s begins no superbubble with an interior
-  pub pass-none : ((t v : ℕ) → Superbubble E s t → Interior E s t v → ⊥) → Passed E n (s + 1) (set exits s n)
+  pub pass-none : ((t v : ℕ) → Superbubble E s t → Interior E s t v → ⊥) → Passed C E n (s + 1) (set exits s n)
   pass-none nothing = record {
     each = length-set exits s n ∙ p .each;
     taken = λ v l m. elim (ℕ-discrete v s) [
@@ -75,7 +89,7 @@ module _ {E : Graph} {n s : ℕ} {exits : List ℕ} (p : Passed E n s exits) (he
       | no k ↦ rw (other v k) (p .taken v (omega arith) (λ r. m (other v k ∙ r)))
     ];
     none = λ v l r. elim (ℕ-discrete v s) [
-      | yes e ↦ λ t c. nothing t (c .interior .0) (rw e at (c .outermost .superbubble)) (rw e at (c .interior .1))
+      | yes e ↦ λ t c. let f = rw e at (B .filled c) in nothing t (f .interior .0) (f .superbubble) (f .interior .1)
       | no k ↦ p .none v (omega arith) (sym (other v k) ∙ r)
     ];
     out = λ v e. elim (ℕ-discrete v s) [ yes h ↦ rw h at-s | no k ↦ other v k ∙ p .out v (earlier e (begins v e)) ];
@@ -93,7 +107,7 @@ module _ {E : Graph} {n s : ℕ} {exits : List ℕ} (p : Passed E n s exits) (he
 
   -- s begins a superbubble, and the vertices listed are its interior
   pub pass-taken : {t : ℕ} {list exits′ : List ℕ} → getD exits s 0 ≢ n → t < n → Filled E s t → ((v : ℕ) → In v list ↔ Interior E s t v)
-      → RuledOut list (set exits s t) exits′ n → Passed E n (s + 1) exits′
+      → RuledOut list (set exits s t) exits′ n → Passed C E n (s + 1) exits′
   pass-taken {t} {list} {exits′} free below filled listed r = record {
     each = r .same ∙ length-set exits s t ∙ p .each;
     taken = λ v l m. elim (ℕ-discrete v s) [
@@ -128,19 +142,18 @@ module _ {E : Graph} {n s : ℕ} {exits : List ℕ} (p : Passed E n s exits) (he
           m (listed v .1 (rw (h, q) at (e .inside)))
 
 -- all entrances passed
-module _ {E : Graph} {n s : ℕ} {exits : List ℕ} (below : Below E n) (p : Passed E n s exits) (all : n ≤ s) where
+module _ {C : CandidateSet} (B : ByEntrance C) {E : Graph} {n s : ℕ} {exits : List ℕ} (below : Below E n) (p : Passed C E n s exits) (all : n ≤ s) where
   pub pass-most : (v : ℕ) → v < n → getD exits v 0 ≤ n
   pass-most v h = elim (ℕ-discrete (getD exits v 0) n) [ yes q ↦ omega arith | no m ↦ omega (arith, p .taken v (omega arith) m .0) ]
 
-  pub pass-sound : (v : ℕ) → v < n → getD exits v 0 < n → Candidate E v (getD exits v 0)
+  pub pass-sound : (v : ℕ) → v < n → getD exits v 0 < n → C E v (getD exits v 0)
   pass-sound v h l =
-      let filled = p .taken v (omega arith) (λ q. omega arith) .1 in
-      record { outermost = outermost-by-entrance .1 (filled .superbubble, free); interior = filled .interior }
+      B .all (p .taken v (omega arith) (λ q. omega arith) .1) free
     where
       free : (x y : ℕ) → Superbubble E x y → Interior E x y v → ⊥
       free x y q i =
           let passed : x < s = omega (arith, entrance-below below (q .bubbloid)) in
           omega (arith, p .out v (record { entrance = x; exit = y; passed = passed; superbubble = q; inside = i }))
 
-  pub pass-no-other : (v : ℕ) → v < n → n ≤ getD exits v 0 → (t : ℕ) → Candidate E v t → ⊥
-  pass-no-other v h l = p .none v (omega arith) (omega (arith, pass-most v h))
+  pub pass-no-other : (v : ℕ) → v < n → getD exits v 0 ≡ n → (t : ℕ) → C E v t → ⊥
+  pass-no-other v h l = p .none v (omega arith) l

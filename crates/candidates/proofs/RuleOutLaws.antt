@@ -7,7 +7,7 @@ use native.Mathlib.Decide.{ℕ-discrete}
 use lib.ListN.{length, getD, take, set, length-set}
 use lib.Seq.{getD-set-same, getD-set-other}
 use Rattle.table.specs.Table.{In}
-use Rattle.search.proofs.OccurrenceLaws.{in-take, take-in}
+use Rattle.parents.proofs.PlaceLaws.{in-take, take-in}
 use Rattle.candidates.specs.Steps.{RuledOut}
 
 -- none is ruled out yet

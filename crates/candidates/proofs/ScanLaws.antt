@@ -7,19 +7,21 @@ use native.Mathlib.Omega.{arith}
 use native.Mathlib.Decide.{decLt}
 use lib.ListN.{length, getD, drop, length-drop}
 use lib.Seq.{getD-drop}
-use Rattle.table.specs.Table.{vertices, In, Below, Edge, WellFormed}
+use Rattle.table.specs.Table.{In, Below, Rows, size, edges, Sound}
 use Rattle.table.proofs.RowLaws.{edges-below}
 use Rattle.bubble.specs.Superbubble.{Interior, Superbubble}
 use Rattle.bubble.proofs.Number.{exit-below, interior-below}
 use Rattle.bubble.proofs.Unique.{exit-unique}
 use Rattle.search.specs.declared.Exit.{Exit}
 use Rattle.search.specs.declared.Exit.the-variants.{At, Nothing}
-use Rattle.search.specs.Search.{Parents, Visited, Searched, Sought}
-use Rattle.search.specs.Steps.{Zeros}
-use Rattle.search.proofs.OccurrenceLaws.{in-take, take-in}
-use Rattle.candidates.specs.Candidates.{entrances, Found}
+use Rattle.parents.specs.Parents.{Parents}
+use Rattle.search.specs.Search.{Visited, Searched, Sought}
+use Rattle.rule.specs.Lists.{CandidateSet}
+use Rattle.parents.specs.Parents.{Zeros}
+use Rattle.parents.proofs.PlaceLaws.{in-take, take-in}
+use Rattle.candidates.specs.Candidates.{entrances, FindDone}
 use Rattle.candidates.specs.Steps.{inner, Notable, Noted, Filled, Passed, Scan}
-use Rattle.candidates.proofs.PassLaws.{pass-start, pass-ruled, pass-none, pass-taken, pass-most, pass-sound, pass-no-other}
+use Rattle.candidates.proofs.PassLaws.{ByEntrance, pass-start, pass-ruled, pass-none, pass-taken, pass-most, pass-sound, pass-no-other}
 
 -- what stands behind the first of the first k has a place below k
 inner-place : (v : ℕ) (order : List ℕ) (k : ℕ) → k ≤ length order → In v (inner order k) → (i : ℕ) × (i + 1 < k) × (getD order (i + 1) 0 ≡ v)
@@ -38,18 +40,18 @@ place-inner order k i h l =
     rw (rw next at (getD-drop 1 order i 0)) at (in-take (drop 1 order) (k - 1) i (omega arith) (omega (arith, length-drop 1 order)))
 
 -- what was visited behind the entrance is the interior
-module _ {starts targets order : List ℕ} {s t k : ℕ} (visited : Visited starts targets order s t k) where
-  inner-is : (v : ℕ) → In v (inner order k) ↔ Interior (Edge starts targets) s t v
+module _ {rows : Rows} {order : List ℕ} {s t k : ℕ} (visited : Visited (rows .starts) (rows .targets) order s t k) where
+  inner-is : (v : ℕ) → In v (inner order k) ↔ Interior (edges rows) s t v
   inner-is v = (to, back)
     where
-      to : In v (inner order k) → Interior (Edge starts targets) s t v
+      to : In v (inner order k) → Interior (edges rows) s t v
       to i =
           let (j, l, q) = inner-place v order k (visited .room) i in
           let (f, n) = visited .whole v .0 (rw q at (in-take order k (j + 1) l (visited .room))) in
           let behind : v ≢ s = λ e. omega (arith, visited .apart (j + 1) 0 l (visited .some) (q ∙ e ∙ sym (visited .first))) in
           record { inside = f; not-entrance = behind; not-exit = n }
 
-      back : Interior (Edge starts targets) s t v → In v (inner order k)
+      back : Interior (edges rows) s t v → In v (inner order k)
       back i =
           let (j, l, q) = take-in v order k (visited .room) (visited .whole v .1 (i .inside, i .not-exit)) in
           elim (decLt 0 j) [
@@ -60,82 +62,83 @@ module _ {starts targets order : List ℕ} {s t k : ℕ} (visited : Visited star
           ]
 
   -- nothing behind it, no interior
-  no-interior : k < 2 → (x v : ℕ) → Superbubble (Edge starts targets) s x → Interior (Edge starts targets) s x v → ⊥
+  no-interior : k < 2 → (x v : ℕ) → Superbubble (edges rows) s x → Interior (edges rows) s x v → ⊥
   no-interior h x v p i =
       let q : x ≡ t = exit-unique p (visited .superbubble) in
       let (j, l, e) = inner-place v order k (visited .room) (inner-is v .1 (rw q at i)) in
       omega arith
 
-  filled : 2 ≤ k → Filled (Edge starts targets) s t
+  filled : 2 ≤ k → Filled (edges rows) s t
   filled h = record { superbubble = visited .superbubble; interior = (getD order 1 0, inner-is (getD order 1 0) .0 (place-inner order k 0 (visited .room) (omega arith))) }
 
--- no entrance is passed yet
-pub scan-start : {starts targets parents left order exits exits′ : List ℕ} → WellFormed starts targets → Parents (vertices starts) targets parents
-    → left ≡ parents → length order ≡ vertices starts → length exits ≡ vertices starts → Zeros exits exits′
-    → Scan starts targets parents left order exits′ 0
-scan-start {exits′ = exits′} ok a same room long zeros =
-    record { well-formed = ok; counted = a; whole = same; room = room; passed = pass-start exits′ (zeros .same ∙ long) (zeros .zeros) }
+module _ {C : CandidateSet} {rows : Rows} where
+  -- no entrance is passed yet
+  pub scan-start : {parents pending order exits exits′ : List ℕ} → Sound rows → Parents (size rows) (rows .targets) parents
+      → pending ≡ parents → size rows ≤ length order → length exits ≡ size rows → Zeros exits exits′ → Scan C rows parents pending order exits′ 0
+  scan-start {exits′ = exits′} ok a same room long zeros =
+      record { well-formed = ok; counted = a; whole = same; room = room; passed = pass-start exits′ (zeros .same ∙ long) (zeros .zeros) }
 
-module _ {starts targets parents left order exits : List ℕ} {s : ℕ} (scan : Scan starts targets parents left order exits s) where
+  -- what the search from s found can be noted
+  pub scan-notable : {parents pending order exits : List ℕ} {s : ℕ} → Scan C rows parents pending order exits s → (exit : Exit) (order′ : List ℕ) → s < size rows
+      → Searched (rows .starts) (rows .targets) s exit order′ → Notable order′ exits s exit
+  scan-notable {exits = exits} scan (At t k) order′ h visited =
+      record { vertex = omega (arith, scan .passed .each); few = omega (arith, scan .passed .each, scan .well-formed .most-vertices); room = visited .room; below = below }
+    where
+      below : Below (length exits) (inner order′ k)
+      below i l =
+          let inside = inner-is {rows = rows} visited (getD (inner order′ k) i 0) .0 (record { place = i; inside = l; stands = refl }) in
+          omega (arith, scan .passed .each, interior-below (edges-below (scan .well-formed)) inside)
+  scan-notable scan Nothing order′ h none = (omega (arith, scan .passed .each), omega (arith, scan .passed .each, scan .well-formed .most-vertices))
+
+module _ {C : CandidateSet} (B : ByEntrance C) {rows : Rows} {parents pending order exits : List ℕ} {s : ℕ} (scan : Scan C rows parents pending order exits s) where
   -- s is ruled out
-  pub scan-ruled : s < vertices starts → getD exits s 0 ≡ length exits → Scan starts targets parents left order exits (s + 1)
+  pub scan-ruled : s < size rows → getD exits s 0 ≡ length exits → Scan C rows parents pending order exits (s + 1)
   scan-ruled h q =
       record {
         well-formed = scan .well-formed;
         counted = scan .counted;
         whole = scan .whole;
         room = scan .room;
-        passed = pass-ruled (scan .passed) h (q ∙ scan .passed .each);
+        passed = pass-ruled B (scan .passed) h (q ∙ scan .passed .each);
       }
 
-  -- what the search from s found can be noted
-  pub scan-notable : (exit : Exit) (order′ : List ℕ) → s < vertices starts → Searched starts targets s exit order′ → Notable order′ exits s exit
-  scan-notable (At t k) order′ h visited =
-      record { vertex = omega (arith, scan .passed .each); few = omega (arith, scan .passed .each, scan .well-formed .most-vertices); room = visited .room; below = below }
-    where
-      below : Below (length exits) (inner order′ k)
-      below i l =
-          let inside = inner-is visited (getD (inner order′ k) i 0) .0 (record { place = i; inside = l; stands = refl }) in
-          omega (arith, scan .passed .each, interior-below (edges-below (scan .well-formed)) inside)
-  scan-notable Nothing order′ h none = (omega (arith, scan .passed .each), omega (arith, scan .passed .each, scan .well-formed .most-vertices))
-
-  next : (exit : Exit) (order′ exits′ : List ℕ) → s < vertices starts → getD exits s 0 ≢ length exits → Searched starts targets s exit order′ → Noted order′ exits exits′ s exit
-      → Passed (Edge starts targets) (vertices starts) (s + 1) exits′
+  next : (exit : Exit) (order′ exits′ : List ℕ) → s < size rows → getD exits s 0 ≢ length exits
+      → Searched (rows .starts) (rows .targets) s exit order′ → Noted order′ exits exits′ s exit → Passed C (edges rows) (size rows) (s + 1) exits′
   next (At t k) order′ exits′ h free visited noted =
       let long = scan .passed .each in
       elim (decLt k 2) [
-        | yes l ↦ rw (noted .empty l, long) (pass-none (scan .passed) h (no-interior visited l))
+        | yes l ↦ rw (noted .empty l, long) (pass-none B (scan .passed) h (no-interior {rows = rows} visited l))
         | no n ↦
             let l : 2 ≤ k = omega arith in
-            pass-taken (scan .passed) h (rw long at free) (exit-below (edges-below (scan .well-formed)) (visited .superbubble .bubbloid)) (filled visited l) (inner-is visited)
-            (rw long at (noted .taken l))
+            pass-taken B (scan .passed) h (rw long at free) (exit-below (edges-below (scan .well-formed)) (visited .superbubble .bubbloid)) (filled {rows = rows} visited l)
+            (inner-is {rows = rows} visited) (rw long at (noted .taken l))
       ]
-  next Nothing order′ exits′ h free none noted = rw (noted, scan .passed .each) (pass-none (scan .passed) h (λ t v p i. none t p))
+  next Nothing order′ exits′ h free none noted = rw (noted, scan .passed .each) (pass-none B (scan .passed) h (λ t v p i. none t p))
 
-  -- and was
-  pub scan-noted : {left′ order′ exits′ : List ℕ} (exit : Exit) → s < vertices starts → getD exits s 0 ≢ length exits → Sought starts targets left order left′ order′ s exit
-      → Noted order′ exits exits′ s exit → Scan starts targets parents left′ order′ exits′ (s + 1)
+  -- what the search from s found was noted
+  pub scan-noted : {pending′ order′ exits′ : List ℕ} (exit : Exit) → s < size rows → getD exits s 0 ≢ length exits
+      → Sought (rows .starts) (rows .targets) pending order pending′ order′ s exit → Noted order′ exits exits′ s exit → Scan C rows parents pending′ order′ exits′ (s + 1)
   scan-noted {order′ = order′} {exits′ = exits′} exit h free sought noted =
       record {
         well-formed = scan .well-formed;
         counted = scan .counted;
         whole = sought .whole ∙ scan .whole;
-        room = sought .room ∙ scan .room;
+        room = omega (arith, sought .room, scan .room);
         passed = next exit order′ exits′ h free (sought .searched) noted;
       }
 
   -- all entrances are passed
-  pub scan-done : (found : ℕ) → vertices starts ≤ s → found ≡ length (entrances exits) → Found starts targets parents left order exits found
-  scan-done found h number =
+  pub scan-done : {found : ℕ} → size rows ≤ s → found ≡ length (entrances exits) → FindDone C rows parents pending order exits found
+  scan-done h number =
       let below = edges-below (scan .well-formed) in
       record {
         candidates = record {
           each = scan .passed .each;
-          most = pass-most below (scan .passed) h;
-          sound = pass-sound below (scan .passed) h;
-          none = pass-no-other below (scan .passed) h;
-          number = number;
+          most = pass-most B below (scan .passed) h;
+          sound = pass-sound B below (scan .passed) h;
+          none = pass-no-other B below (scan .passed) h;
         };
+        number = number;
         counted = scan .counted;
         whole = scan .whole;
         room = scan .room;

@@ -1,16 +1,17 @@
--- What the steps of finding the candidates settle between themselves. Assumes nothing.
+-- What the steps of finding the candidates state between themselves. Assumes nothing.
 use Prim.Native.Nat.{ℕ, _-_, _≤_, _<_}
 use mathlib.Core.Path.{_≡_}
 use mathlib.Core.Logic.{_≢_}
 use mathlib.Core.List.{List}
 use lib.ListN.{length, getD, take, drop, set}
-use Rattle.table.specs.Table.{vertices, In, Below, Edge, WellFormed}
+use Rattle.table.specs.Limits.{vertex-limit}
+use Rattle.table.specs.Table.{In, Below, Rows, size, edges, Sound}
 use Rattle.bubble.specs.Superbubble.{Interior, Superbubble}
 use Rattle.search.specs.declared.Exit.{Exit}
 use Rattle.search.specs.declared.Exit.the-variants.{At, Nothing}
-use Rattle.search.specs.Search.{Parents}
-use Rattle.rule.specs.Lists.{Graph}
-use Rattle.rule.specs.Fold.{Candidate}
+use Rattle.parents.specs.Parents.{Parents}
+use Rattle.rule.specs.Lists.{Graph, CandidateSet}
+use Rattle.candidates.specs.Candidates.{no-exit}
 
 -- the vertices listed have the mark for none, the others are as they were
 pub record RuledOut (list exits exits′ : List ℕ) (none : ℕ) : Type 0 where
@@ -22,27 +23,27 @@ pub record RuledOut (list exits exits′ : List ℕ) (none : ℕ) : Type 0 where
 abbrev pub inner : List ℕ → ℕ → List ℕ
 inner order k = take (k - 1) (drop 1 order)
 
--- s can be settled where k vertices were visited
-pub record Settling (order exits : List ℕ) (s k : ℕ) : Type 0 where
+-- the exit of s can be set where k vertices were visited
+pub record ExitSettable (order exits : List ℕ) (s k : ℕ) : Type 0 where
   pub vertex : s < length exits
-  pub few : length exits ≤ 2048
+  pub few : length exits ≤ vertex-limit
   pub room : k ≤ length order
   pub below : Below (length exits) (inner order k)
 
 -- s has no exit where only s was visited, else the exit t, and the others that were visited are ruled out
-pub record Settled (order exits exits′ : List ℕ) (s t k : ℕ) : Type 0 where
-  pub empty : k < 2 → exits′ ≡ set exits s (length exits)
-  pub taken : 2 ≤ k → RuledOut (inner order k) (set exits s t) exits′ (length exits)
+pub record ExitSet (order exits exits′ : List ℕ) (s t k : ℕ) : Type 0 where
+  pub empty : k < 2 → exits′ ≡ set exits s (no-exit (length exits))
+  pub taken : 2 ≤ k → RuledOut (inner order k) (set exits s t) exits′ (no-exit (length exits))
 
 -- what a search from s found can be noted
 abbrev pub Notable : List ℕ → List ℕ → ℕ → Exit → Type 0
-Notable order exits s (At t k) = Settling order exits s k
-Notable order exits s Nothing = (s < length exits) × (length exits ≤ 2048)
+Notable order exits s (At t k) = ExitSettable order exits s k
+Notable order exits s Nothing = (s < length exits) × (length exits ≤ vertex-limit)
 
 -- and was noted
 abbrev pub Noted : List ℕ → List ℕ → List ℕ → ℕ → Exit → Type 0
-Noted order exits exits′ s (At t k) = Settled order exits exits′ s t k
-Noted order exits exits′ s Nothing = exits′ ≡ set exits s (length exits)
+Noted order exits exits′ s (At t k) = ExitSet order exits exits′ s t k
+Noted order exits exits′ s Nothing = exits′ ≡ set exits s (no-exit (length exits))
 
 -- s, t is a superbubble with an interior
 pub record Filled (E : Graph) (s t : ℕ) : Type 0 where
@@ -58,21 +59,21 @@ pub record Enclosed (E : Graph) (s v : ℕ) : Type 0 where
   pub inside : Interior E entrance exit v
 
 -- the entrances below s are passed, of a graph with n vertices
-pub record Passed (E : Graph) (n s : ℕ) (exits : List ℕ) : Type 0 where
+pub record Passed (C : CandidateSet) (E : Graph) (n s : ℕ) (exits : List ℕ) : Type 0 where
   pub each : length exits ≡ n
   -- one that is not ruled out has an exit, and an interior
-  pub taken : (v : ℕ) → v < s → getD exits v 0 ≢ n → (getD exits v 0 < n) × Filled E v (getD exits v 0)
+  pub taken : (v : ℕ) → v < s → getD exits v 0 ≢ no-exit n → (getD exits v 0 < n) × Filled E v (getD exits v 0)
   -- one that is ruled out begins no candidate
-  pub none : (v : ℕ) → v < s → getD exits v 0 ≡ n → (t : ℕ) → Candidate E v t → ⊥
+  pub none : (v : ℕ) → v < s → getD exits v 0 ≡ no-exit n → (t : ℕ) → C E v t → ⊥
   -- whatever is interior to a superbubble of theirs is ruled out
-  pub out : (v : ℕ) → Enclosed E s v → getD exits v 0 ≡ n
+  pub out : (v : ℕ) → Enclosed E s v → getD exits v 0 ≡ no-exit n
   -- and of the entrances to come nothing else
-  pub enclosed : (v : ℕ) → s ≤ v → v < n → getD exits v 0 ≡ n → Enclosed E s v
+  pub enclosed : (v : ℕ) → s ≤ v → v < n → getD exits v 0 ≡ no-exit n → Enclosed E s v
 
 -- the same of a table, and what the search needs is as it was
-pub record Scan (starts targets parents left order exits : List ℕ) (s : ℕ) : Type 0 where
-  pub well-formed : WellFormed starts targets
-  pub counted : Parents (vertices starts) targets parents
-  pub whole : left ≡ parents
-  pub room : length order ≡ vertices starts
-  pub passed : Passed (Edge starts targets) (vertices starts) s exits
+pub record Scan (C : CandidateSet) (rows : Rows) (parents pending order exits : List ℕ) (s : ℕ) : Type 0 where
+  pub well-formed : Sound rows
+  pub counted : Parents (size rows) (rows .targets) parents
+  pub whole : pending ≡ parents
+  pub room : size rows ≤ length order
+  pub passed : Passed C (edges rows) (size rows) s exits

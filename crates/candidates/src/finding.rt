@@ -1,15 +1,17 @@
 // One search from each vertex that is not interior to a superbubble found before. Where it gives a superbubble with an interior, that interior is ruled out:
-// no candidate begins in it. An entrance's exit, or n for none, stands in `exits`.
+// no candidate begins in it. In `exits` stands, for each of n vertices, the exit of the candidate that it is the entrance of, or n, which is no vertex's
+// number, for none. A vertex that no search has come to has 0 there, which is not n: it is not ruled out.
 ghost use Prim.Native.Nat.{_+_, _<_};
 ghost use mathlib.Core.Path.{_≡_};
 ghost use lib.ListN.{length};
 ghost use Rattle.table.specs.Table.{vertices, Below};
-ghost use Rattle.candidates.specs.Candidates.{entrances, Findable, Found};
-ghost use Rattle.candidates.specs.Steps.{RuledOut, Settling, Settled, Notable, Noted, Scan};
+ghost use Rattle.rule.specs.Way.{the-fold};
+ghost use Rattle.candidates.specs.Candidates.{entrances, Findable, FindDone};
+ghost use Rattle.candidates.specs.Steps.{RuledOut, ExitSettable, ExitSet, Notable, Noted, Scan};
+use parents::clear;
+use parents::copy;
+use parents::count_parents;
 use search::Exit;
-use search::clear;
-use search::copy;
-use search::count_parents;
 use search::search;
 
 // Gives each of the vertices the mark for none.
@@ -25,10 +27,10 @@ fn rule_out(interior: &[u32], exits: &mut [u32], none: u32)
     }
 }
 
-// Settles s, with exit t and k vertices in U less t: without an interior it has none, else its interior is ruled out.
-fn settle(order: &[u32], exits: &mut [u32], s: usize, t: u32, k: usize)
-    requires { ⌜ Settling (now order) (now exits) s k ⌝ }
-    ensures { λ r. ⌜ Settled (now (order .entry)) (now (exits .entry)) (now (exits .exit)) s t k ⌝ }
+// Sets the exit of s, where the search came to t and visited k vertices of U less t: without an interior it has none, else its interior is ruled out.
+fn set_exit(order: &[u32], exits: &mut [u32], s: usize, t: u32, k: usize)
+    requires { ⌜ ExitSettable (now order) (now exits) s k ⌝ }
+    ensures { λ r. ⌜ ExitSet (now (order .entry)) (now (exits .entry)) (now (exits .exit)) s t k ⌝ }
 {
     let none = exits.len() as u32;
     if k < 2 {
@@ -45,29 +47,52 @@ fn note(order: &[u32], exits: &mut [u32], s: usize, exit: Exit)
     ensures { λ r. ⌜ Noted (now (order .entry)) (now (exits .entry)) (now (exits .exit)) s exit ⌝ }
 {
     match exit {
-        Exit::At(t, k) => settle(order, exits, s, t, k),
-        Exit::Nothing => exits[s] = exits.len() as u32,
+        Exit::At(t, k) => set_exit(order, exits, s, t, k),
+        Exit::Nothing => {
+            let none = exits.len() as u32;
+            exits[s] = none;
+        }
     }
 }
 
 // Passes one entrance more. One that is ruled out is not searched from: whatever it begins lies in the interior that it lies in.
-fn pass(
+fn pass_entrance(
     starts: &[u32],
     targets: &[u32],
     parents: &[u32],
-    left: &mut [u32],
+    pending: &mut [u32],
     order: &mut [u32],
     exits: &mut [u32],
     s: usize,
 )
-    requires { ⌜ Scan (now starts) (now targets) (now parents) (now left) (now order) (now exits) s ⌝ }
+    requires { ⌜
+        Scan
+        (the-fold .candidates)
+        (record { starts = now starts; targets = now targets })
+        (now parents)
+        (now pending)
+        (now order)
+        (now exits)
+        s
+        ⌝ }
     requires { ⌜ s < vertices (now starts) ⌝ }
-    ensures { λ r. ⌜ Scan (now (starts .entry)) (now (targets .entry)) (now (parents .entry)) (now (left .exit)) (now (order .exit)) (now (exits .exit)) (s + 1) ⌝ }
+    ensures { λ r.
+        ⌜
+        Scan
+        (the-fold .candidates)
+        (record { starts = now (starts .entry); targets = now (targets .entry) })
+        (now (parents .entry))
+        (now (pending .exit))
+        (now (order .exit))
+        (now (exits .exit))
+        (s + 1)
+        ⌝ }
 {
-    if exits[s] as usize == exits.len() {
+    let none = exits.len();
+    if exits[s] as usize == none {
         return;
     }
-    let exit = search(starts, targets, parents, left, order, s as u32);
+    let exit = search(starts, targets, parents, pending, order, s as u32);
     note(order, exits, s, exit);
 }
 
@@ -75,10 +100,11 @@ fn pass(
 fn count(exits: &[u32]) -> usize
     ensures { λ r. ⌜ r ≡ length (entrances (now (exits .entry))) ⌝ }
 {
+    let none = exits.len();
     let mut found = 0;
     let mut s = 0;
     while s < exits.len() {
-        if (exits[s] as usize) < exits.len() {
+        if (exits[s] as usize) < none {
             found += 1;
         }
         s += 1;
@@ -91,20 +117,37 @@ pub fn find(
     starts: &[u32],
     targets: &[u32],
     parents: &mut [u32],
-    left: &mut [u32],
+    pending: &mut [u32],
     order: &mut [u32],
     exits: &mut [u32],
 ) -> usize
-    requires { ⌜ Findable (now starts) (now targets) (now parents) (now left) (now order) (now exits) ⌝ }
-    ensures { λ r. ⌜ Found (now (starts .entry)) (now (targets .entry)) (now (parents .exit)) (now (left .exit)) (now (order .exit)) (now (exits .exit)) r ⌝ }
+    requires { ⌜
+        Findable
+        (record { starts = now starts; targets = now targets })
+        (now parents)
+        (now pending)
+        (now order)
+        (now exits)
+        ⌝ }
+    ensures { λ r.
+        ⌜
+        FindDone
+        (the-fold .candidates)
+        (record { starts = now (starts .entry); targets = now (targets .entry) })
+        (now (parents .exit))
+        (now (pending .exit))
+        (now (order .exit))
+        (now (exits .exit))
+        r
+        ⌝ }
 {
     count_parents(targets, parents);
-    copy(parents, left);
+    copy(parents, pending);
     clear(exits);
     let n = starts.len() - 1;
     let mut s: usize = 0;
     while s < n {
-        pass(starts, targets, parents, left, order, exits, s);
+        pass_entrance(starts, targets, parents, pending, order, exits, s);
         s += 1;
     }
     count(exits)

@@ -2,7 +2,7 @@
 use Prim.Native.Nat.{ℕ}
 use Rattle.bubble.specs.Superbubble.{Walk}
 use Rattle.bubble.proofs.Walks.{reaches-walk, walk-first}
-use Rattle.cycle.specs.Cycle.{Anywhere, Cyclic}
+use Rattle.bubble.specs.Cycle.{Anywhere, Cyclic}
 use Rattle.cycle.specs.Visits.{Safe, Safe.safe}
 
 module _ {E : ℕ → ℕ → Type 0} where

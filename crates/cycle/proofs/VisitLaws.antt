@@ -7,11 +7,12 @@ use native.Mathlib.Omega.{arith}
 use native.Mathlib.Decide.{ℕ-discrete}
 use lib.ListN.{length, getD, set, length-set}
 use lib.Seq.{getD-set-same, getD-set-other}
+use Rattle.table.specs.Limits.{vertex-limit}
 use Rattle.table.specs.Table.{vertices, row, In, Edge}
 use Rattle.table.proofs.RowLaws.{in-row-below}
 use Rattle.bubble.specs.Superbubble.{Walk.edge, Walk.more}
-use Rattle.cycle.specs.Cycle.{Cyclic}
-use Rattle.cycle.specs.Visits.{Testable, Unvisited, Safe, Safe.safe, Visitable, Onward, Visited}
+use Rattle.bubble.specs.Cycle.{Cyclic}
+use Rattle.cycle.specs.Visits.{Testable, Unvisited, Safe, Safe.safe, Visitable, Onward, EachDone}
 use Rattle.cycle.proofs.SafeLaws.{safe-no-cycle}
 
 -- one colour more is 0
@@ -74,11 +75,11 @@ module _ {starts targets : List ℕ} where
       }
 
   -- nothing is visited yet
-  pub visited-none : {colours : List ℕ} {these those : ℕ → Type 0} → Visitable starts targets colours these → ((v : ℕ) → those v → ⊥) → Visited starts targets colours colours those
+  pub visited-none : {colours : List ℕ} {these those : ℕ → Type 0} → Visitable starts targets colours these → ((v : ℕ) → those v → ⊥) → EachDone starts targets colours colours those
   visited-none {colours} can none = record { onward = onward-none colours; done-safe = can .done-safe; done = λ v h. absurd (none v h) }
 
   -- what can be visited can be visited later
-  pub visitable-later : {colours colours′ : List ℕ} {these those : ℕ → Type 0} (v : ℕ) → these v → Visitable starts targets colours these → Visited starts targets colours colours′ those
+  pub visitable-later : {colours colours′ : List ℕ} {these those : ℕ → Type 0} (v : ℕ) → these v → Visitable starts targets colours these → EachDone starts targets colours colours′ those
       → Visitable starts targets colours′ (λ u. u ≡ v)
   visitable-later v h can was =
       record {
@@ -88,8 +89,8 @@ module _ {starts targets : List ℕ} where
       }
 
   -- one vertex more is visited
-  pub visited-more : {first second third : List ℕ} {these those : ℕ → Type 0} {v : ℕ} → Visited starts targets first second these → Visited starts targets second third (λ u. u ≡ v)
-      → ((u : ℕ) → those u → these u ⊎ (u ≡ v)) → Visited starts targets first third those
+  pub visited-more : {first second third : List ℕ} {these those : ℕ → Type 0} {v : ℕ} → EachDone starts targets first second these → EachDone starts targets second third (λ u. u ≡ v)
+      → ((u : ℕ) → those u → these u ⊎ (u ≡ v)) → EachDone starts targets first third those
   visited-more f g h =
       record {
         onward = onward-then (f .onward) (g .onward);
@@ -98,11 +99,12 @@ module _ {starts targets : List ℕ} where
       }
 
   -- some of the visited vertices
-  pub visited-some : {colours colours′ : List ℕ} {these those : ℕ → Type 0} → Visited starts targets colours colours′ these → ((v : ℕ) → those v → these v) → Visited starts targets colours colours′ those
+  pub visited-some : {colours colours′ : List ℕ} {these those : ℕ → Type 0} → EachDone starts targets colours colours′ these
+      → ((v : ℕ) → those v → these v) → EachDone starts targets colours colours′ those
   visited-some was h = record { onward = was .onward; done-safe = was .done-safe; done = λ v t. was .done v (h v t) }
 
   -- where each vertex is done, there is no cycle
-  pub done-no-cycle : {colours colours′ : List ℕ} → Visited starts targets colours colours′ (λ v. v < vertices starts) → Cyclic (Edge starts targets) → ⊥
+  pub done-no-cycle : {colours colours′ : List ℕ} → EachDone starts targets colours colours′ (λ v. v < vertices starts) → Cyclic (Edge starts targets) → ⊥
   done-no-cycle was = safe-no-cycle (λ v w e. was .done-safe v (e .vertex) (was .done v (e .vertex)))
 
   module _ {colours : List ℕ} {v : ℕ} (can : Visitable starts targets colours (λ u. u ≡ v)) where
@@ -111,7 +113,7 @@ module _ {starts targets : List ℕ} where
     coloured = omega (arith, can .testable .room, can .ahead v refl .vertex)
 
     -- v is one of 2,048
-    pub below-most : v < 2048
+    pub below-most : v < vertex-limit
     below-most = omega (arith, can .testable .well-formed .some, can .testable .well-formed .most-vertices, can .ahead v refl .vertex)
 
     -- a vertex on the path has a walk to v, so v on the path is on a cycle
@@ -119,7 +121,7 @@ module _ {starts targets : List ℕ} where
     path-closes q = record { vertex = v; back = can .ahead v refl .walk v (can .ahead v refl .vertex) q }
 
     -- v is done already
-    pub visited-before : (getD colours v 0 ≡ 1 → ⊥) → (getD colours v 0 ≡ 0 → ⊥) → Visited starts targets colours colours (λ u. u ≡ v)
+    pub visited-before : (getD colours v 0 ≡ 1 → ⊥) → (getD colours v 0 ≡ 0 → ⊥) → EachDone starts targets colours colours (λ u. u ≡ v)
     visited-before n m =
         record { onward = onward-none colours; done-safe = can .done-safe; done = λ u q. rw q (omega arith) }
 
@@ -143,8 +145,8 @@ module _ {starts targets : List ℕ} where
         }
 
     -- where its successors are done, v is done
-    pub row-visited : {colours′ : List ℕ} → getD colours v 0 ≡ 0 → Visited starts targets (set colours v 1) colours′ (λ u. In u (row starts targets v))
-        → Visited starts targets colours (set colours′ v 2) (λ u. u ≡ v)
+    pub row-visited : {colours′ : List ℕ} → getD colours v 0 ≡ 0 → EachDone starts targets (set colours v 1) colours′ (λ u. In u (row starts targets v))
+        → EachDone starts targets colours (set colours′ v 2) (λ u. u ≡ v)
     row-visited {colours′} new was =
         let here = can .ahead v refl in
         let long : length colours′ ≡ length colours = was .onward .same ∙ length-set colours v 1 in

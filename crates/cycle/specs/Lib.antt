@@ -1,3 +1,2 @@
--- The definitions of `cycle`, in the order in which one reads them. Assumes nothing.
-pub mod Cycle
+-- The definitions of `cycle`. Assumes nothing.
 pub mod Visits

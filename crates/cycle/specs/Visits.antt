@@ -1,4 +1,5 @@
--- What the cycle test asks for, and what its parts do. The colour of a vertex is 0 where it is unvisited, 1 where it is on the path of visits that have not ended, and 2 where it is done. Assumes nothing.
+-- What the cycle test asks for, and what its parts do.
+-- The colour of a vertex is 0 where it is unvisited, 1 where it is on the path of visits that have not ended, and 2 where it is done. Assumes nothing.
 use Prim.Native.Nat.{ℕ, _≤_, _<_}
 use mathlib.Core.Path.{_≡_}
 use mathlib.Core.Logic.{_⊎_}
@@ -7,7 +8,7 @@ use mathlib.Core.List.{List}
 use lib.ListN.{length, getD}
 use Rattle.table.specs.Table.{vertices, Edge, WellFormed}
 use Rattle.bubble.specs.Superbubble.{Walk}
-use Rattle.cycle.specs.Cycle.{Anywhere, Cyclic}
+use Rattle.bubble.specs.Cycle.{Anywhere, Cyclic}
 
 -- a table can be tested: it is well-formed, and each vertex has room for its colour
 pub record Testable (starts targets colours : List ℕ) : Type 0 where
@@ -44,7 +45,7 @@ pub record Onward (colours colours′ : List ℕ) : Type 0 where
   pub each : (v : ℕ) → (getD colours′ v 0 ≡ getD colours v 0) ⊎ ((getD colours v 0 ≡ 0) × (2 ≤ getD colours′ v 0))
 
 -- each of these vertices is done
-pub record Visited (starts targets colours colours′ : List ℕ) (these : ℕ → Type 0) : Type 0 where
+pub record EachDone (starts targets colours colours′ : List ℕ) (these : ℕ → Type 0) : Type 0 where
   pub onward : Onward colours colours′
   pub done-safe : DoneSafe starts targets colours′
   pub done : (v : ℕ) → these v → 2 ≤ getD colours′ v 0
@@ -52,4 +53,4 @@ pub record Visited (starts targets colours colours′ : List ℕ) (these : ℕ �
 -- the answer of a visit: true where a cycle was found, false where each of these vertices is done
 abbrev pub Answer : Bool → List ℕ → List ℕ → List ℕ → List ℕ → (ℕ → Type 0) → Type 0
 Answer true starts targets colours colours′ these = Cyclic (Edge starts targets)
-Answer false starts targets colours colours′ these = Visited starts targets colours colours′ these
+Answer false starts targets colours colours′ these = EachDone starts targets colours colours′ these

@@ -2,15 +2,17 @@
 ghost use Prim.Native.Nat.{_≤_};
 ghost use mathlib.Core.Path.{_≡_};
 ghost use lib.ListN.{length};
+ghost use Rattle.table.specs.Limits.{vertex-limit};
 ghost use Rattle.table.specs.Verdict.{Says};
 ghost use Rattle.table.specs.Table.{Edge, In};
-ghost use Rattle.cycle.specs.Cycle.{Cyclic};
+ghost use Rattle.bubble.specs.Cycle.{Cyclic};
 ghost use Rattle.cycle.specs.Visits.{Testable, Unvisited, Visitable, Answer};
+use table::VERTEX_LIMIT;
 
 // Sets the first n colours to 0.
-fn clear(colours: &mut [u8; 2048], n: usize)
+fn clear(colours: &mut [u8; VERTEX_LIMIT], n: usize)
     requires { ⌜ n ≤ length (now colours) ⌝ }
-    requires { ⌜ n ≤ 2048 ⌝ }
+    requires { ⌜ n ≤ vertex-limit ⌝ }
     ensures { λ r. ⌜ Unvisited n (now (colours .entry)) (now (colours .exit)) ⌝ }
 {
     let mut u = 0;
@@ -21,7 +23,7 @@ fn clear(colours: &mut [u8; 2048], n: usize)
 }
 
 // Visits v, and through its row each successor that is unvisited. A vertex that is still on the path closes a cycle.
-fn visit(starts: &[u32], targets: &[u32], colours: &mut [u8; 2048], v: usize) -> bool
+fn visit(starts: &[u32], targets: &[u32], colours: &mut [u8; VERTEX_LIMIT], v: usize) -> bool
     requires { ⌜ Visitable (now starts) (now targets) (now colours) (λ u. u ≡ v) ⌝ }
     ensures { λ r. ⌜ Answer r (now (starts .entry)) (now (targets .entry)) (now (colours .entry)) (now (colours .exit)) (λ u. u ≡ v) ⌝ }
 {
@@ -41,7 +43,7 @@ fn visit(starts: &[u32], targets: &[u32], colours: &mut [u8; 2048], v: usize) ->
 }
 
 // Visits each vertex of a row in turn.
-fn walk_row(starts: &[u32], targets: &[u32], colours: &mut [u8; 2048], row: &[u32]) -> bool
+fn walk_row(starts: &[u32], targets: &[u32], colours: &mut [u8; VERTEX_LIMIT], row: &[u32]) -> bool
     requires { ⌜ Visitable (now starts) (now targets) (now colours) (λ u. In u (now row)) ⌝ }
     ensures { λ r. ⌜ Answer r (now (starts .entry)) (now (targets .entry)) (now (colours .entry)) (now (colours .exit)) (λ u. In u (now (row .entry))) ⌝ }
 {
@@ -56,7 +58,7 @@ fn walk_row(starts: &[u32], targets: &[u32], colours: &mut [u8; 2048], row: &[u3
 }
 
 // Whether the table has a directed cycle. A self-loop is one.
-pub fn has_cycle(starts: &[u32], targets: &[u32], colours: &mut [u8; 2048]) -> bool
+pub fn has_cycle(starts: &[u32], targets: &[u32], colours: &mut [u8; VERTEX_LIMIT]) -> bool
     requires { ⌜ Testable (now starts) (now targets) (now colours) ⌝ }
     ensures { λ r. ⌜ Says r (Cyclic (Edge (now (starts .entry)) (now (targets .entry)))) ⌝ }
 {

@@ -2,6 +2,7 @@
 ghost use Prim.Native.Nat.{_<_};
 ghost use lib.ListN.{length};
 ghost use Rattle.libc.specs.Io.{Ended};
+ghost use Rattle.files.specs.Names.{path-limit};
 use crate::errors::last;
 
 // The nine rights of a plain file, and its owner.
@@ -48,7 +49,7 @@ fn kind_of(path: &[u8; libc::PATH_MAX], mode: u32, owner: u32, group: u32) -> Fo
 
 // Looks at what stands at a name. Nothing is opened, so a pipe is not waited for and a device does nothing.
 pub fn find(name: &[u8]) -> Found
-    requires { ⌜ length (now name) < 4096 ⌝ }
+    requires { ⌜ length (now name) < path-limit ⌝ }
 {
     if name.len() == 0 {
         return Found::Unseen(libc::ENOENT);

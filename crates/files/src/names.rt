@@ -2,6 +2,7 @@
 ghost use Prim.Native.Nat.{_+_, _*_, _≤_};
 ghost use lib.ListN.{length};
 ghost use Rattle.io.specs.Counts.{Counts};
+ghost use Rattle.files.specs.Names.{path-limit};
 
 // What the name of a file that is being written begins with. 16 hexadecimal digits follow.
 const BEGINNING: [u8; 13] = *b"gohardim-new-";
@@ -76,7 +77,7 @@ fn put_hex(path: &mut [u8], at: usize, bytes: &[u8])
 // Puts a new name in the folder of a file, and answers its length; or 0, with the error, where the system has no random bytes.
 // Two runs never write under one name, and no run reads, renames or removes what another one left.
 pub fn own_name(name: &[u8], path: &mut [u8; 4125]) -> usize
-    requires { ⌜ length (now name) ≤ 4096 ⌝ }
+    requires { ⌜ length (now name) ≤ path-limit ⌝ }
     ensures { λ r. ⌜ Counts r (now (path .exit)) ⌝ }
 {
     let mut random = [0u8; 8];

@@ -11,6 +11,7 @@
 // Where a step up to 4 fails the file of its own is removed, and the old one is as it was. Nothing is printed meanwhile: a program prints once all is closed.
 ghost use Prim.Native.Nat.{_≤_};
 ghost use lib.ListN.{length};
+ghost use Rattle.files.specs.Names.{path-limit};
 use crate::errors::last;
 use crate::kind::Found;
 use crate::kind::Old;
@@ -102,7 +103,7 @@ fn replace_by(own: &[u8], folder: i32, found: Found, name: &[u8], bytes: &[u8]) 
 
 // Steps 3 to 6.
 fn replace_in(folder: i32, found: Found, name: &[u8], bytes: &[u8]) -> Replaced
-    requires { ⌜ length (now name) ≤ 4096 ⌝ }
+    requires { ⌜ length (now name) ≤ path-limit ⌝ }
 {
     let mut own = [0u8; libc::PATH_MAX + OWN];
     let count = own_name(name, &mut own);
@@ -114,7 +115,7 @@ fn replace_in(folder: i32, found: Found, name: &[u8], bytes: &[u8]) -> Replaced
 
 // Steps 2 to 6, for what may be replaced.
 fn replace_found(found: Found, name: &[u8], bytes: &[u8]) -> Replaced
-    requires { ⌜ length (now name) ≤ 4096 ⌝ }
+    requires { ⌜ length (now name) ≤ path-limit ⌝ }
 {
     let folder = open_folder(name);
     if folder < 0 {

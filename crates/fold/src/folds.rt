@@ -3,6 +3,9 @@ ghost use Prim.Native.Nat.{_≤_};
 ghost use mathlib.Core.Path.{_≡_};
 ghost use lib.ListN.{length};
 ghost use Rattle.table.specs.Table.{Counted};
+use table::EDGE_LIMIT;
+use table::START_LIMIT;
+use table::VERTEX_LIMIT;
 
 // What folding an image answers: the number, the fields of the fold, and the length of the new image.
 pub struct Outcome {
@@ -36,7 +39,7 @@ fn write_folded(
 ) -> Outcome
     ensures { λ r. ⌜ r .length ≤ length (now (new .exit)) ⌝ }
 {
-    let extent = image::write(starts, targets, counts, new);
+    let extent = writing::write(starts, targets, counts, new);
     if extent.number != 0 {
         return refused(extent.number);
     }
@@ -89,9 +92,9 @@ fn fold_apart(
     requires { ⌜ Counted (now starts) (now targets) (now counts) ⌝ }
     ensures { λ r. ⌜ r .length ≤ length (now (new .exit)) ⌝ }
 {
-    let mut starts2 = [0u32; 2049];
-    let mut targets2 = [0u32; 8192];
-    let mut counts2 = [0u64; 2048];
+    let mut starts2 = [0u32; START_LIMIT];
+    let mut targets2 = [0u32; EDGE_LIMIT];
+    let mut counts2 = [0u64; VERTEX_LIMIT];
     fold_table(
         starts,
         targets,
@@ -128,8 +131,8 @@ fn fold_with(
 pub fn fold_image(image: &[u8], budget: u32, new: &mut [u8]) -> Outcome
     ensures { λ r. ⌜ r .length ≤ length (now (new .exit)) ⌝ }
 {
-    let mut starts = [0u32; 2049];
-    let mut targets = [0u32; 8192];
-    let mut counts = [0u64; 2048];
+    let mut starts = [0u32; START_LIMIT];
+    let mut targets = [0u32; EDGE_LIMIT];
+    let mut counts = [0u64; VERTEX_LIMIT];
     fold_with(image, budget, &mut starts, &mut targets, &mut counts, new)
 }

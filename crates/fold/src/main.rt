@@ -3,16 +3,15 @@
 mod folds;
 
 ghost use Prim.Native.Nat.{_≤_};
+ghost use Rattle.text.specs.Buffer.{Place};
 use files::Replaced;
 use folds::Outcome;
+use layout::Header;
 use words::Numeral;
 
-// One byte more than the largest image is read, so that a longer file gets the number that its header earns.
-const MOST: usize = image::Header::LARGEST + 1;
-
 // Puts the line of a fold.
-fn folded_line(out: &mut [u8; 4096], outcome: Outcome) -> usize
-    ensures { λ r. ⌜ r ≤ 4097 ⌝ }
+fn folded_line(out: &mut [u8; text::BUFFER], outcome: Outcome) -> usize
+    ensures { λ r. ⌜ Place r ⌝ }
 {
     let mut place = text::word(out, 0, b"folded");
     place = text::next_number(out, place, outcome.folded as u64);
@@ -62,7 +61,7 @@ fn print_replaced(replaced: Replaced, outcome: Outcome, to: &[u8]) {
 
 // Folds an image and puts the new one in the place of OUT, and prints what came of it.
 fn fold_stream(stream: &[u8], budget: u32, to: &[u8]) {
-    let mut new = [0u8; image::Header::LARGEST];
+    let mut new = [0u8; Header::LARGEST];
     let outcome = folds::fold_image(stream, budget, &mut new);
     if outcome.number != 0 {
         print_refusal(outcome.number);
@@ -75,7 +74,7 @@ fn fold_stream(stream: &[u8], budget: u32, to: &[u8]) {
 
 // Reads IN into the room, folds its table, and writes OUT.
 fn fold_file(budget: u32, from: &[u8], to: &[u8], room: &mut [u8]) {
-    let input = files::read_file(from, room, MOST);
+    let input = files::read_file(from, room, Header::STREAM);
     if input.error != 0 {
         messages::say_reason(from, input.error);
         messages::say_state(b"fold", b"IN could not be read; OUT is as it was");

@@ -1,82 +1,87 @@
--- Of all that the contract of fold allows: two results coincide, and what a fold leaves is accepted by the next one. With `TableDemand` of `rule` this is demand 3. Assumes nothing.
+-- Of all that the contract of fold allows, in every lawful way: two results coincide, and what a fold leaves is accepted by the next one. With `TableDemand` of
+-- `rule` this is demand 3. Assumes nothing.
 use Prim.Native.Nat.{ℕ, _+_}
-use mathlib.Core.Path.{_≡_, refl, sym, ap, _∙_}
+use mathlib.Core.Path.{_≡_, refl, sym, ap, ap₂, _∙_}
 use mathlib.Core.Logic.{inr}
-use mathlib.Core.List.{List, [], _∷_, _++_}
+use mathlib.Core.List.{_∷_, _++_}
 use native.Mathlib.Decide.{ℕ-discrete}
 use native.Mathlib.Omega.{arith}
 use lib.ListN.{length, drop}
-use Rattle.table.specs.Table.{vertices, Edge, Counted}
+use Rattle.table.specs.Table.{Table, size, edges, SoundTable}
 use Rattle.table.specs.Numbers.{countedDemands}
-use Rattle.table.proofs.VerdictLaws.{AllMet, accepted, goes-on, verdict-unique}
+use Rattle.table.specs.Verdict.{AllMet}
+use Rattle.table.proofs.VerdictLaws.{accepted, accepts, goes-on, verdict-unique}
 use Rattle.table.proofs.Accepted.{counted-meets}
-use Rattle.rule.specs.Fold.{NoCycle, Candidate, first-takes-all}
+use Rattle.rule.specs.Way.{Way}
+use Rattle.rule.specs.Laws.{WayLaws}
 use Rattle.rule.specs.Tables.{TableFolded, TablesInTurn.once}
-use Rattle.rule.proofs.BestLaws.{first-takes-all-laws}
-use Rattle.rule.proofs.Candidates.{candidate-laws}
 use Rattle.rule.proofs.Budgets.{applied-kind}
 use Rattle.rule.proofs.TableDemand.{table-folds-coincide, count-sum-stays}
-use Rattle.folding.specs.Folding.{foldRoom, noCycle, FoldDone}
-use Rattle.folding.proofs.DoneLaws.{acyclic-folds}
+use Rattle.folding.specs.declared.folds.Folded.{Folded}
+use Rattle.folding.specs.Folding.{foldRoom, foldDemands, FoldDone}
 
-module _ (starts targets counts : List ℕ) (budget : ℕ) (starts₂ targets₂ counts₂ : List ℕ) where
+module _ {way : Way} (laws : WayLaws way) {table : Table} {budget : ℕ} {lent : Table} where
   -- an accepted fold met all that was asked
-  fold-met : (a b c : List ℕ) (number folded left edges : ℕ) → FoldDone starts targets counts budget starts₂ targets₂ counts₂ a b c number folded left edges → number ≡ 0
-      → AllMet (countedDemands starts targets counts ++ foldRoom starts targets starts₂ targets₂ counts₂ ∷ noCycle starts targets ∷ [])
-  fold-met a b c number folded left edges done e =
-      accepted (countedDemands starts targets counts ++ foldRoom starts targets starts₂ targets₂ counts₂ ∷ noCycle starts targets ∷ [])
-      ((λ e. omega arith), ((λ e. omega arith), ((λ e. omega arith), ((λ e. omega arith), ((λ e. omega arith), ((λ e. omega arith), ((λ e. omega arith), ((λ e. omega arith), ((λ e. omega arith), tt)))))))))
+  fold-met : {after : Table} {answer : Folded} → FoldDone way table budget lent after answer → answer .number ≡ 0 → AllMet (foldDemands way table lent)
+  fold-met done e =
+      accepted (foldDemands way table lent) (
+        (λ e. omega arith),
+        (
+          (λ e. omega arith),
+          ((λ e. omega arith), ((λ e. omega arith), ((λ e. omega arith), ((λ e. omega arith), ((λ e. omega arith), ((λ e. omega arith), laws .never-zero (table .rows))))))),
+        ),
+      )
       (rw e at (done .verdict))
 
-  fold-acyclic : (a b c : List ℕ) (number folded left edges : ℕ) → FoldDone starts targets counts budget starts₂ targets₂ counts₂ a b c number folded left edges → number ≡ 0
-      → NoCycle (Edge starts targets)
-  fold-acyclic a b c number folded left edges done e = acyclic-folds starts targets (fold-met a b c number folded left edges done e .1 .1 .1 .1 .1 .1 .1 .1 .0)
+  fold-kind : {after : Table} {answer : Folded} → FoldDone way table budget lent after answer → answer .number ≡ 0 → way .Kind (edges (table .rows))
+  fold-kind done e = laws .asked-kind (table .rows) (fold-met done e .1 .1 .1 .1 .1 .1 .1 .1)
 
   -- two folds of one table by one budget, into slices that held the same, coincide: number, fields and all memory lent
-  pub fold-determined : (a₁ b₁ c₁ a₂ b₂ c₂ : List ℕ) (number₁ folded₁ left₁ edges₁ number₂ folded₂ left₂ edges₂ : ℕ)
-      → FoldDone starts targets counts budget starts₂ targets₂ counts₂ a₁ b₁ c₁ number₁ folded₁ left₁ edges₁
-      → FoldDone starts targets counts budget starts₂ targets₂ counts₂ a₂ b₂ c₂ number₂ folded₂ left₂ edges₂
-      → (number₁ ≡ number₂) × (folded₁ ≡ folded₂) × (left₁ ≡ left₂) × (edges₁ ≡ edges₂) × (a₁ ≡ a₂) × (b₁ ≡ b₂) × (c₁ ≡ c₂)
-  fold-determined a₁ b₁ c₁ a₂ b₂ c₂ number₁ folded₁ left₁ edges₁ number₂ folded₂ left₂ edges₂ p q =
-      let same : number₁ ≡ number₂
-      = verdict-unique (countedDemands starts targets counts ++ foldRoom starts targets starts₂ targets₂ counts₂ ∷ noCycle starts targets ∷ []) number₁ number₂ (p .verdict) (q .verdict) in
-      elim (ℕ-discrete number₁ 0) [
+  pub fold-determined : {after₁ after₂ : Table} {answer₁ answer₂ : Folded} → FoldDone way table budget lent after₁ answer₁ → FoldDone way table budget lent after₂ answer₂
+      → (answer₁ ≡ answer₂) × (after₁ ≡ after₂)
+  fold-determined {after₁} {after₂} {answer₁} {answer₂} p q =
+      let number : answer₁ .number ≡ answer₂ .number =
+      verdict-unique (foldDemands way table lent) (answer₁ .number) (answer₂ .number) (p .verdict) (q .verdict) in
+      elim (ℕ-discrete (answer₁ .number) 0) [
         | yes e ↦
             let x = p .taken e in
-            let y = q .taken (sym same ∙ e) in
-            let (s, t, c, f, l) = table-folds-coincide candidate-laws first-takes-all-laws (fold-acyclic a₁ b₁ c₁ number₁ folded₁ left₁ edges₁ p e) (x .table-folded) (y .table-folded) in
-            let edges : edges₁ ≡ edges₂ = x .edge-count ∙ ap length t ∙ sym (y .edge-count) in (
-              same,
-              f,
-              l,
-              edges,
-              x .starts-front ∙ ap (λ (k : List ℕ). k ++ drop (vertices starts + 1) starts₂) s ∙ sym (y .starts-front),
-              x .targets-front ∙ ap (λ (k : List ℕ). k ++ drop edges₁ targets₂) t ∙ ap (λ (k : ℕ). y .targets₁ ++ drop k targets₂) edges ∙ sym (y .targets-front),
-              x .counts-front ∙ ap (λ (k : List ℕ). k ++ drop (vertices starts) counts₂) c ∙ sym (y .counts-front),
+            let y = q .taken (sym number ∙ e) in
+            let (same, folded, left) = table-folds-coincide laws (fold-kind p e) (x .table-folded) (y .table-folded) in
+            let m : answer₁ .edges ≡ answer₂ .edges = x .edge-count ∙ ap (λ (t : Table). length (t .rows .targets)) same ∙ sym (y .edge-count) in
+            let starts = x .at-fronts .starts-front ∙ ap (λ (t : Table). t .rows .starts ++ drop (size (table .rows) + 1) (lent .rows .starts)) same
+            ∙ sym (y .at-fronts .starts-front) in
+            let targets = x .at-fronts .targets-front ∙ ap₂ (λ (t : Table) (k : ℕ). t .rows .targets ++ drop k (lent .rows .targets)) same m
+            ∙ sym (y .at-fronts .targets-front) in
+            let counts = x .at-fronts .counts-front ∙ ap (λ (t : Table). t .counts ++ drop (size (table .rows)) (lent .counts)) same ∙ sym (y .at-fronts .counts-front) in (
+              λ i. record { number = number i; folded = folded i; left = left i; edges = m i },
+              λ i. record { rows = record { starts = starts i; targets = targets i }; counts = counts i },
             )
         | no refusal ↦
-            let x = p .refused refusal in
-            let y = q .refused (λ e. refusal (same ∙ e)) in
-            (same, x .0 ∙ sym (y .0), x .1 ∙ sym (y .1), x .2 ∙ sym (y .2), x .3 ∙ sym (y .3), x .4 ∙ sym (y .4), x .5 ∙ sym (y .5))
+            let (folded, left, m, after) = p .refused refusal in
+            let (folded′, left′, m′, after′) = q .refused (λ e. refusal (number ∙ e)) in
+            let folded″ = folded ∙ sym folded′ in
+            let left″ = left ∙ sym left′ in
+            let m″ = m ∙ sym m′ in
+            (λ i. record { number = number i; folded = folded″ i; left = left″ i; edges = m″ i }, after ∙ sym after′)
       ]
 
--- what a fold leaves is a well-formed table with its counts, and without a cycle: with room, the next fold accepts it
-pub left-accepted : (starts targets counts : List ℕ) (budget : ℕ) (starts₁ targets₁ counts₁ : List ℕ) (folded left : ℕ) → Counted starts targets counts → NoCycle (Edge starts targets)
-    → TableFolded Candidate first-takes-all starts targets counts budget starts₁ targets₁ counts₁ folded left → Counted starts₁ targets₁ counts₁ × NoCycle (Edge starts₁ targets₁)
-left-accepted starts targets counts budget starts₁ targets₁ counts₁ folded left ok acyclic f =
+  -- a table with its counts that the way folds is folded, if there is room
+  pub fold-accepts : {after : Table} {answer : Folded} → SoundTable table → way .Kind (edges (table .rows)) → foldRoom table lent .met
+      → FoldDone way table budget lent after answer → answer .number ≡ 0
+  fold-accepts {answer = answer} ok kind room done =
+      verdict-unique (foldDemands way table lent) (answer .number) 0 (done .verdict)
+      (goes-on (countedDemands table) (foldRoom table lent ∷ way .asked (table .rows)) 0 (counted-meets table ok)
+      (inr (room, accepts (way .asked (table .rows)) (laws .kind-asked (table .rows) kind))))
+
+-- what a fold leaves is a well-formed table with its counts that the way folds: with room, the next fold accepts it
+pub left-accepted : {way : Way} → WayLaws way → {table result : Table} {budget folded left : ℕ} → SoundTable table → way .Kind (edges (table .rows))
+    → TableFolded (way .candidates) (way .rule) table budget result folded left → SoundTable result × way .Kind (edges (result .rows))
+left-accepted laws ok kind f =
     let size = f .same-size in (
       record {
         well-formed = size .well-formed;
         count-each = omega (arith, size .as-many-counts, size .as-many-vertices, ok .count-each);
-        sum-fits = omega (arith, count-sum-stays ok acyclic (once f), ok .sum-fits);
+        sum-fits = omega (arith, count-sum-stays laws kind (once f) ok, ok .sum-fits);
       },
-      applied-kind candidate-laws first-takes-all-laws acyclic (f .graph-folded .applied),
+      applied-kind (laws .candidates-lawful) (laws .rule-lawful) kind (f .graph-folded .applied),
     )
-
--- a table with its counts and without a cycle is folded, if there is room
-pub fold-accepts : (starts targets counts : List ℕ) (budget : ℕ) (starts₂ targets₂ counts₂ a b c : List ℕ) (number folded left edges : ℕ) → Counted starts targets counts → NoCycle (Edge starts targets)
-    → (foldRoom starts targets starts₂ targets₂ counts₂) .met → FoldDone starts targets counts budget starts₂ targets₂ counts₂ a b c number folded left edges → number ≡ 0
-fold-accepts starts targets counts budget starts₂ targets₂ counts₂ a b c number folded left edges ok acyclic room done =
-    verdict-unique (countedDemands starts targets counts ++ foldRoom starts targets starts₂ targets₂ counts₂ ∷ noCycle starts targets ∷ []) number 0 (done .verdict)
-    (goes-on (countedDemands starts targets counts) (foldRoom starts targets starts₂ targets₂ counts₂ ∷ noCycle starts targets ∷ []) 0 (counted-meets starts targets counts ok)
-    (inr (room, inr ((λ cycle. acyclic (cycle .vertex) (cycle .back)), refl))))

@@ -1,43 +1,33 @@
--- What fold settles: the number, every field, and all memory lent, on a refusal too. Assumes nothing.
-use Prim.Native.Nat.{ℕ, _+_, _≤_}
+-- What fold states: the number, every field, and all memory lent, on a refusal too. Assumes nothing.
+use Prim.Native.Nat.{ℕ}
 use mathlib.Core.Path.{_≡_}
-use mathlib.Core.List.{List, [], _∷_, _++_}
-use lib.ListN.{length, drop}
+use mathlib.Core.List.{List, _∷_, _++_}
+use lib.ListN.{length}
 use Rattle.table.specs.Verdict.{Demand, Verdict}
-use Rattle.table.specs.Table.{vertices, Edge}
-use Rattle.table.specs.Numbers.{countedDemands}
-use Rattle.cycle.specs.Cycle.{Cyclic}
-use Rattle.rule.specs.Fold.{Candidate, first-takes-all}
+use Rattle.table.specs.Table.{Table, size}
+use Rattle.table.specs.Numbers.{countedDemands, roomFor}
+use Rattle.table.specs.Lent.{AtFronts}
+use Rattle.rule.specs.Way.{Way}
 use Rattle.rule.specs.Tables.{TableFolded}
+use Rattle.folding.specs.declared.folds.Folded.{Folded}
 
 -- 8: output starts, targets, counts below n+1, m, n
-abbrev pub foldRoom : List ℕ → List ℕ → List ℕ → List ℕ → List ℕ → Demand
-foldRoom starts targets out-starts out-targets out-counts =
-    record {
-      number = 8;
-      met = (vertices starts + 1 ≤ length out-starts) × (length targets ≤ length out-targets) × (vertices starts ≤ length out-counts);
-    }
+abbrev pub foldRoom : Table → Table → Demand
+foldRoom table lent = roomFor (size (table .rows)) (length (table .rows .targets)) lent
 
--- 9: the table has a directed cycle
-abbrev pub noCycle : List ℕ → List ℕ → Demand
-noCycle starts targets = record { number = 9; met = Cyclic (Edge starts targets) → ⊥ }
+-- 1 to 8, and what the way asks: all that fold asks
+abbrev pub foldDemands : Way → Table → Table → List Demand
+foldDemands way table lent = countedDemands table ++ foldRoom table lent ∷ way .asked (table .rows)
 
 -- the three slices, before and after, with the folded table and its counts at their fronts
-pub record FoldedAt (starts targets counts : List ℕ) (budget : ℕ) (out-starts out-targets out-counts out-starts′ out-targets′ out-counts′ : List ℕ) (folded left edges : ℕ) : Type 0 where
-  pub starts₁ : List ℕ
-  pub targets₁ : List ℕ
-  pub counts₁ : List ℕ
-  pub table-folded : TableFolded Candidate first-takes-all starts targets counts budget starts₁ targets₁ counts₁ folded left
-  pub edge-count : edges ≡ length targets₁
-  pub starts-front : out-starts′ ≡ starts₁ ++ drop (vertices starts + 1) out-starts
-  pub targets-front : out-targets′ ≡ targets₁ ++ drop edges out-targets
-  pub counts-front : out-counts′ ≡ counts₁ ++ drop (vertices starts) out-counts
+pub record FoldedAt (way : Way) (table : Table) (budget : ℕ) (lent after : Table) (answer : Folded) : Type 0 where
+  pub result : Table
+  pub table-folded : TableFolded (way .candidates) (way .rule) table budget result (answer .folded) (answer .left)
+  pub edge-count : answer .edges ≡ length (result .rows .targets)
+  pub at-fronts : AtFronts (size (table .rows)) (answer .edges) result lent after
 
--- what fold settles: number, folded, left, edges, and the three slices before and after
-pub record FoldDone (starts targets counts : List ℕ) (budget : ℕ) (out-starts out-targets out-counts out-starts′ out-targets′ out-counts′ : List ℕ) (number folded left edges : ℕ) : Type 0 where
-  pub verdict : Verdict (countedDemands starts targets counts ++ foldRoom starts targets out-starts out-targets out-counts ∷ noCycle starts targets ∷ []) number
-  pub taken :
-      number ≡ 0 → FoldedAt starts targets counts budget out-starts out-targets out-counts out-starts′ out-targets′ out-counts′ folded left edges
-  pub refused :
-      (number ≡ 0 → ⊥)
-      → (folded ≡ 0) × (left ≡ 0) × (edges ≡ 0) × (out-starts′ ≡ out-starts) × (out-targets′ ≡ out-targets) × (out-counts′ ≡ out-counts)
+-- what fold states: number, folded, left, edges, and the three slices before and after
+pub record FoldDone (way : Way) (table : Table) (budget : ℕ) (lent after : Table) (answer : Folded) : Type 0 where
+  pub verdict : Verdict (foldDemands way table lent) (answer .number)
+  pub taken : answer .number ≡ 0 → FoldedAt way table budget lent after answer
+  pub refused : (answer .number ≡ 0 → ⊥) → (answer .folded ≡ 0) × (answer .left ≡ 0) × (answer .edges ≡ 0) × (after ≡ lent)

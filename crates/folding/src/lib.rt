@@ -1,6 +1,5 @@
 // The fold: the first candidates by rising entrance, as many as the budget, each to its kept path; the result goes to a second set of slices.
 mod folds;
-mod turns;
 
 pub use folds::Folded;
 pub use folds::fold;

@@ -1,150 +1,210 @@
--- Laws of reading: what an accepted header says, and how the table's own check settles 3, 4, 5 and 7 of an image. Assumes nothing.
-use Prim.Native.Nat.{ℕ, _+_, _*_, _≤_}
-use mathlib.Core.Path.{_≡_, refl, sym, ap, _∙_}
+-- Laws of reading: what an accepted header says, and how the table's own check gives 3, 4, 5 and 7 of an image. Assumes nothing.
+use Prim.Native.Nat.{ℕ, _+_, _≤_}
+use mathlib.Core.Path.{_≡_, refl, sym, subst, ap, _∙_}
 use mathlib.Core.Logic.{inl, inr}
 use mathlib.Core.List.{List, [], _∷_, _++_}
 use native.Mathlib.Omega.{arith}
 use lib.ListN.{length, take, drop}
 use lib.Seq.{take-at}
-use Rattle.table.specs.Verdict.{Demand, Verdict}
-use Rattle.table.specs.Numbers.{someStarts, fewTargets, startsFit, targetsBelow, rowsRise, countEach, sumFits, countDemands, countedDemands}
-use Rattle.table.proofs.VerdictLaws.{AllMet, accepted, goes-on, stops, met-is-passed, first-met}
-use Rattle.image.specs.Bytes.{numbersOf}
-use Rattle.image.specs.Image.{imageLength, verticesOf, edgesOf, startsOf, targetsOf, countsOf}
-use Rattle.image.specs.Contracts.{headerDemands, bodyDemands, readRoom, Laid, HeaderJudged, Judged, Read}
-use Rattle.image.proofs.ByteLaws.{numbers-length}
+use Rattle.table.specs.Limits.{vertex-limit, edge-limit}
+use Rattle.table.specs.Verdict.{Demand, Verdict, AllMet}
+use Rattle.table.specs.Table.{Table, SoundTable}
+use Rattle.table.specs.Numbers.{someStarts, fewTargets, startsFit, targetsBelow, rowsRise, countEach, sumFits, roomFor, countDemands, countedDemands}
+use Rattle.table.specs.Lent.{AtFronts, fronts}
+use Rattle.table.proofs.VerdictLaws.{accepted, goes-on, stops, met-is-passed, first-met}
+use Rattle.layout.specs.Image.{imageLength, verticesOf, edgesOf, startsOf, targetsOf, countsOf, tableOf}
+use Rattle.layout.proofs.ImageLaws.{starts-long, targets-long, counts-long}
+use Rattle.image.specs.declared.header.Sizes.{Sizes}
+use Rattle.image.specs.Contracts.{headerDemands, bodyDemands, Laid, HeaderJudged, ImageJudged, Read}
 
 -- what an accepted header says of its image
-pub record Sound (image : List ℕ) (n m : ℕ) : Type 0 where
+pub record HeaderSays (image : List ℕ) (n m : ℕ) : Type 0 where
   pub vertices : n ≡ verticesOf image
   pub edges : m ≡ edgesOf image
-  pub most-vertices : n ≤ 2048
-  pub most-edges : m ≤ 8192
+  pub few-vertices : n ≤ vertex-limit
+  pub few-edges : m ≤ edge-limit
   pub long : length image ≡ imageLength n m
 
-pub header-met : (image : List ℕ) → Verdict (headerDemands image) 0 → AllMet (headerDemands image)
-header-met image v =
-    accepted (headerDemands image) ((λ e. omega arith), ((λ e. omega arith), ((λ e. omega arith), ((λ e. omega arith), ((λ e. omega arith), tt))))) v
-
-pub header-sound : (image : List ℕ) (n m : ℕ) → AllMet (headerDemands image) → (n ≡ verticesOf image) × (m ≡ edgesOf image) → Sound image n m
-header-sound image n m met sizes =
+says : {image : List ℕ} {n m : ℕ} → AllMet (headerDemands image) → (n ≡ verticesOf image) × (m ≡ edgesOf image) → HeaderSays image n m
+says met sizes =
     record {
       vertices = sizes .0;
       edges = sizes .1;
-      most-vertices = rw (sizes .0) (met .1 .1 .0);
-      most-edges = rw (sizes .1) (met .1 .1 .1 .0);
+      few-vertices = rw (sizes .0) (met .1 .1 .0);
+      few-edges = rw (sizes .1) (met .1 .1 .1 .0);
       long = rw (sizes .0, sizes .1) (met .1 .1 .1 .1 .0);
     }
 
--- of a table that stands in an image 1, 2 and 6 are never due
-pub body-verdict : (image : List ℕ) (r : ℕ) → AllMet (headerDemands image) → Verdict (countedDemands (startsOf image) (targetsOf image) (countsOf image)) r → Verdict (bodyDemands image) r
-body-verdict image r met v =
-    let n = verticesOf image in
-    let m = edgesOf image in
-    let starts = startsOf image in
-    let targets = targetsOf image in
-    let counts = countsOf image in
-    let starts-long : length starts ≡ n + 1 = numbers-length 4 (n + 1) (drop 13 image) in
-    let targets-long : length targets ≡ m = numbers-length 4 m (drop (13 + 4 * (n + 1)) image) in
-    let counts-long : length counts ≡ n = numbers-length 8 n (drop (13 + 4 * (n + 1) + 4 * m) image) in
-    let rows : List Demand = startsFit starts targets ∷ targetsBelow starts targets ∷ rowsRise starts targets ∷ [] in
-    met-is-passed rows (countEach starts counts) (sumFits counts ∷ []) r (omega arith)
-    (met-is-passed [] (fewTargets targets) (rows ++ countDemands starts counts) r (omega (arith, met .1 .1 .1 .0))
-    (met-is-passed [] (someStarts starts) (fewTargets targets ∷ rows ++ countDemands starts counts) r (omega (arith, met .1 .1 .0)) v))
+module _ {image : List ℕ} {answer : Sizes} (judged : HeaderJudged image answer) (e : answer .number ≡ 0) where
+  -- a header that is accepted meets all that is asked of it
+  pub header-met : AllMet (headerDemands image)
+  header-met =
+      accepted (headerDemands image)
+      ((λ e. omega arith), ((λ e. omega arith), ((λ e. omega arith), ((λ e. omega arith), ((λ e. omega arith), tt))))) (rw e at (judged .verdict))
 
--- numbers that stand at the front of a slice are its front
-front-is : (k count : ℕ) (bs out list : List ℕ) → list ≡ numbersOf k count bs ++ drop count out → take count list ≡ numbersOf k count bs
-front-is k count bs out list e = ap (take count) e ∙ take-at (numbersOf k count bs) (drop count out) count (numbers-length k count bs)
+  pub header-says : HeaderSays image (answer .vertices) (answer .edges)
+  header-says = says header-met (judged .taken e)
 
-module _ (image : List ℕ) (n m : ℕ) (starts targets counts starts′ targets′ counts′ : List ℕ) (sound : Sound image n m)
-    (laid : Laid image n m starts targets counts starts′ targets′ counts′) where
+-- of a table that stands in an image 1, 2 and 6 are never given
+pub body-verdict : (image : List ℕ) {r : ℕ} → AllMet (headerDemands image) → Verdict (countedDemands (tableOf image)) r → Verdict (bodyDemands image) r
+body-verdict image {r} met v =
+    let table = tableOf image in
+    let rows : List Demand = startsFit (table .rows) ∷ targetsBelow (table .rows) ∷ rowsRise (table .rows) ∷ [] in
+    met-is-passed rows (countEach table) (sumFits table ∷ []) r (omega (arith, starts-long image, counts-long image))
+    (met-is-passed [] (fewTargets (table .rows)) (rows ++ countDemands table) r (omega (arith, targets-long image, met .1 .1 .1 .0))
+    (met-is-passed [] (someStarts (table .rows)) (fewTargets (table .rows) ∷ rows ++ countDemands table) r (omega (arith, starts-long image, met .1 .1 .0)) v))
+
+-- the front of a slice that holds so many numbers
+front-is : (front rest : List ℕ) {list : List ℕ} (count : ℕ) → length front ≡ count → list ≡ front ++ rest → take count list ≡ front
+front-is front rest count long e = ap (take count) e ∙ take-at front rest count long
+
+-- slices with the table of an image at their fronts have that table there
+pub image-fronts : (image : List ℕ) {n m : ℕ} {lent after : Table} → n ≡ verticesOf image → m ≡ edgesOf image
+    → AtFronts n m (tableOf image) lent after → fronts n m after ≡ tableOf image
+image-fronts image {n} {m} {lent} {after} n-is m-is at =
+    let starts-are = front-is (startsOf image) (drop (n + 1) (lent .rows .starts)) (n + 1) (omega (arith, starts-long image)) (at .starts-front) in
+    let targets-are = front-is (targetsOf image) (drop m (lent .rows .targets)) m (omega (arith, targets-long image)) (at .targets-front) in
+    let counts-are = front-is (countsOf image) (drop n (lent .counts)) n (omega (arith, counts-long image)) (at .counts-front) in
+    λ i. record { rows = record { starts = starts-are i; targets = targets-are i }; counts = counts-are i }
+
+module _ {image : List ℕ} {n m : ℕ} {lent after : Table} (header : HeaderSays image n m) (laid : Laid image n m lent after) where
+  -- what was laid by n and m is the table of the image
+  pub laid-table : AtFronts n m (tableOf image) lent after
+  laid-table = rw (← header .vertices, ← header .edges) laid
+
   -- what the table's check says of the fronts it says of the image's table
-  pub laid-verdict : (r : ℕ) → Verdict (countedDemands (take (n + 1) starts′) (take m targets′) (take n counts′)) r
-      → Verdict (countedDemands (startsOf image) (targetsOf image) (countsOf image)) r
-  laid-verdict r v =
-      rw (← sound .vertices, ← sound .edges)
-      (rw (
-        front-is 4 (n + 1) (drop 13 image) starts starts′ (laid .starts-laid),
-        front-is 4 m (drop (13 + 4 * (n + 1)) image) targets targets′ (laid .targets-laid),
-        front-is 8 n (drop (13 + 4 * (n + 1) + 4 * m) image) counts counts′ (laid .counts-laid),
-      ) at v)
+  pub laid-verdict : {r : ℕ} → Verdict (countedDemands (fronts n m after)) r → Verdict (countedDemands (tableOf image)) r
+  laid-verdict {r} v = subst (λ (t : Table). Verdict (countedDemands t) r) (image-fronts image (header .vertices) (header .edges) laid-table) v
 
--- a header that is refused is the image's refusal
-pub judged-by-header : (image : List ℕ) (number n m : ℕ) → (number ≡ 0 → ⊥) → HeaderJudged image number n m → Judged image number n m
-judged-by-header image number n m refusal h =
-    record { verdict = stops (headerDemands image) (bodyDemands image) number refusal (h .verdict); taken = h .taken; refused = h .refused }
-
--- a table that is refused is the image's refusal
-pub judged-by-table : (image : List ℕ) (number n m r : ℕ) → (r ≡ 0 → ⊥) → AllMet (headerDemands image) → Verdict (bodyDemands image) r
-    → (number ≡ r) × (n ≡ 0) × (m ≡ 0) → Judged image number n m
-judged-by-table image number n m r refusal met v fields =
-    record {
-      verdict = rw (fields .0) (goes-on (headerDemands image) (bodyDemands image) r met v);
-      taken = λ e. absurd (refusal (sym (fields .0) ∙ e));
-      refused = λ _. (fields .1, fields .2);
-    }
-
--- header and table accepted
-pub judged-sound : (image : List ℕ) (number n m r : ℕ) → number ≡ 0 → r ≡ 0 → AllMet (headerDemands image) → Verdict (bodyDemands image) r
-    → (n ≡ verticesOf image) × (m ≡ edgesOf image) → Judged image number n m
-judged-sound image number n m r e f met v sizes =
-    record {
-      verdict = rw e (goes-on (headerDemands image) (bodyDemands image) 0 met (rw f at v));
-      taken = λ _. sizes;
-      refused = λ wrong. absurd (wrong e);
-    }
-
--- an image that is accepted meets all that is asked of it
-pub judged-met : (image : List ℕ) (number n m : ℕ) → Judged image number n m → number ≡ 0 → AllMet (headerDemands image ++ bodyDemands image)
-judged-met image number n m judged e =
-    accepted (headerDemands image ++ bodyDemands image)
-    ((λ e. omega arith), ((λ e. omega arith), ((λ e. omega arith), ((λ e. omega arith), ((λ e. omega arith), ((λ e. omega arith), ((λ e. omega arith), ((λ e. omega arith), ((λ e. omega arith), tt)))))))))
-    (rw e at (judged .verdict))
-
-pub judged-header : (image : List ℕ) (number n m : ℕ) → Judged image number n m → number ≡ 0 → Sound image n m
-judged-header image number n m judged e =
-    header-sound image n m (first-met (headerDemands image) (bodyDemands image) (judged-met image number n m judged e)) (judged .taken e)
-
-module _ (image starts targets counts : List ℕ) (number n m : ℕ) where
-  -- an image that is refused leaves every slice as it was
-  pub read-refused-by-image : (number ≡ 0 → ⊥) → Judged image number n m → Read image starts targets counts starts targets counts number n m
-  read-refused-by-image refusal judged =
+module _ {image : List ℕ} {answer : Sizes} where
+  -- a header that is refused is the image's refusal
+  pub judged-by-header : (answer .number ≡ 0 → ⊥) → HeaderJudged image answer → ImageJudged image answer
+  judged-by-header refusal h =
       record {
-        verdict = stops (headerDemands image ++ bodyDemands image) (readRoom image starts targets counts ∷ []) number refusal (judged .verdict);
-        taken = λ e. absurd (refusal e);
-        refused = λ _. (judged .refused refusal .0, judged .refused refusal .1, refl, refl, refl);
+        verdict = stops (headerDemands image) (bodyDemands image) (answer .number) refusal (h .verdict);
+        taken = h .taken;
+        refused = h .refused;
       }
 
-  -- slices without room are left as they were
-  pub read-refused-by-room : AllMet (headerDemands image ++ bodyDemands image) → ((readRoom image starts targets counts) .met → ⊥) → (number ≡ 8) × (n ≡ 0) × (m ≡ 0)
-      → Read image starts targets counts starts targets counts number n m
-  read-refused-by-room met no-room fields =
+  -- a table that is refused is the image's refusal
+  pub judged-by-table : (number : ℕ) → (number ≡ 0 → ⊥) → AllMet (headerDemands image) → Verdict (bodyDemands image) number
+      → (answer .number ≡ number) × (answer .vertices ≡ 0) × (answer .edges ≡ 0) → ImageJudged image answer
+  judged-by-table number refusal met v fields =
       record {
-        verdict = rw (fields .0) (goes-on (headerDemands image ++ bodyDemands image) (readRoom image starts targets counts ∷ []) 8 met (inl (no-room, refl)));
-        taken = λ e. absurd (let no : ⊥ = omega (arith, fields .0) in no);
-        refused = λ _. (fields .1, fields .2, refl, refl, refl);
+        verdict = rw (fields .0) (goes-on (headerDemands image) (bodyDemands image) number met v);
+        taken = λ e. absurd (refusal (sym (fields .0) ∙ e));
+        refused = λ _. (fields .1, fields .2);
       }
 
-  -- slices with room take the image's table at their fronts
-  pub read-taken : (starts′ targets′ counts′ : List ℕ) → number ≡ 0 → AllMet (headerDemands image ++ bodyDemands image) → (readRoom image starts targets counts) .met
-      → Sound image n m → Laid image n m starts targets counts starts′ targets′ counts′ → Read image starts targets counts starts′ targets′ counts′ number n m
-  read-taken starts′ targets′ counts′ e met room sound laid =
+  -- header and table accepted
+  pub judged-sound : (number : ℕ) → number ≡ 0 → HeaderJudged image answer → answer .number ≡ 0 → Verdict (bodyDemands image) number → ImageJudged image answer
+  judged-sound number f h e v =
       record {
-        verdict = rw e (goes-on (headerDemands image ++ bodyDemands image) (readRoom image starts targets counts ∷ []) 0 met (inr (room, refl)));
-        taken = λ _. (
-          sound .vertices,
-          sound .edges,
-          rw (← sound .vertices) (laid .starts-laid),
-          rw (← sound .vertices, ← sound .edges) (laid .targets-laid),
-          rw (← sound .vertices, ← sound .edges) (laid .counts-laid),
-        );
+        verdict = rw e (goes-on (headerDemands image) (bodyDemands image) 0 (header-met h e) (rw f at v));
+        taken = h .taken;
         refused = λ wrong. absurd (wrong e);
       }
 
-  -- an accepted reading met all that was asked
-  pub read-met : (starts′ targets′ counts′ : List ℕ) → Read image starts targets counts starts′ targets′ counts′ number n m → number ≡ 0
-      → AllMet (headerDemands image ++ bodyDemands image ++ readRoom image starts targets counts ∷ [])
-  read-met starts′ targets′ counts′ read e =
-      accepted (headerDemands image ++ bodyDemands image ++ readRoom image starts targets counts ∷ [])
-      ((λ e. omega arith), ((λ e. omega arith), ((λ e. omega arith), ((λ e. omega arith), ((λ e. omega arith), ((λ e. omega arith), ((λ e. omega arith), ((λ e. omega arith), ((λ e. omega arith), ((λ e. omega arith), tt))))))))))
-      (rw e at (read .verdict))
+module _ {image : List ℕ} {answer : Sizes} (judged : ImageJudged image answer) (e : answer .number ≡ 0) where
+  -- an image that is accepted meets all that is asked of it
+  pub judged-met : AllMet (headerDemands image ++ bodyDemands image)
+  judged-met =
+      accepted (headerDemands image ++ bodyDemands image) (
+        (λ e. omega arith),
+        (
+          (λ e. omega arith),
+          (
+            (λ e. omega arith),
+            (
+              (λ e. omega arith),
+              (
+                (λ e. omega arith),
+                ((λ e. omega arith), ((λ e. omega arith), ((λ e. omega arith), ((λ e. omega arith), tt)))),
+              ),
+            ),
+          ),
+        ),
+      )
+      (rw e at (judged .verdict))
+
+  pub judged-says : HeaderSays image (answer .vertices) (answer .edges)
+  judged-says = says (first-met (headerDemands image) (bodyDemands image) judged-met) (judged .taken e)
+
+module _ {image : List ℕ} {lent : Table} {answer : Sizes} where
+  -- an image that is refused leaves every slice as it was
+  pub read-refused-by-image : (answer .number ≡ 0 → ⊥) → ImageJudged image answer → Read image lent lent answer
+  read-refused-by-image refusal judged =
+      let room = roomFor (verticesOf image) (edgesOf image) lent in
+      record {
+        verdict = stops (headerDemands image ++ bodyDemands image) (room ∷ []) (answer .number) refusal (judged .verdict);
+        taken = λ e. absurd (refusal e);
+        refused = λ _. (judged .refused refusal .0, judged .refused refusal .1, refl);
+      }
+
+  -- slices without room are left as they were
+  pub read-refused-by-room : AllMet (headerDemands image ++ bodyDemands image) → (roomFor (verticesOf image) (edgesOf image) lent .met → ⊥)
+      → (answer .number ≡ 8) × (answer .vertices ≡ 0) × (answer .edges ≡ 0) → Read image lent lent answer
+  read-refused-by-room met no-room fields =
+      let room = roomFor (verticesOf image) (edgesOf image) lent in
+      record {
+        verdict = rw (fields .0) (goes-on (headerDemands image ++ bodyDemands image) (room ∷ []) 8 met (inl (no-room, refl)));
+        taken = λ e. absurd (let no : ⊥ = omega (arith, fields .0) in no);
+        refused = λ _. (fields .1, fields .2, refl);
+      }
+
+  -- slices with room take the image's table at their fronts
+  pub read-taken : {after : Table} → ImageJudged image answer → answer .number ≡ 0 → roomFor (verticesOf image) (edgesOf image) lent .met
+      → Laid image (answer .vertices) (answer .edges) lent after → Read image lent after answer
+  read-taken judged e room laid =
+      let header = judged-says judged e in
+      let asked = roomFor (verticesOf image) (edgesOf image) lent in
+      record {
+        verdict = rw e (goes-on (headerDemands image ++ bodyDemands image) (asked ∷ []) 0 (judged-met judged e) (inr (room, refl)));
+        taken = λ _. (header .vertices, header .edges, laid-table header laid);
+        refused = λ wrong. absurd (wrong e);
+      }
+
+-- the table that stands in an image which meets all that is asked of it is well-formed
+pub table-sound : (image : List ℕ) → AllMet (headerDemands image ++ bodyDemands image) → SoundTable (tableOf image)
+table-sound image met =
+    record {
+      well-formed =
+          record {
+            some = omega (arith, starts-long image);
+            most-vertices = omega (arith, starts-long image, met .1 .1 .0);
+            most-edges = omega (arith, targets-long image, met .1 .1 .1 .0);
+            starts-fit = met .1 .1 .1 .1 .1 .0;
+            targets-below = met .1 .1 .1 .1 .1 .1 .0;
+            rows-rise = met .1 .1 .1 .1 .1 .1 .1 .0;
+          };
+      count-each = omega (arith, starts-long image, counts-long image);
+      sum-fits = met .1 .1 .1 .1 .1 .1 .1 .1 .0;
+    }
+
+module _ {image : List ℕ} {lent after : Table} {answer : Sizes} (read : Read image lent after answer) (e : answer .number ≡ 0) where
+  -- an image that was read met all that is asked of it
+  pub read-met : AllMet (headerDemands image ++ bodyDemands image)
+  read-met =
+      let room = roomFor (verticesOf image) (edgesOf image) lent in
+      first-met (headerDemands image ++ bodyDemands image) (room ∷ [])
+      (accepted (headerDemands image ++ bodyDemands image ++ room ∷ []) (
+        (λ e. omega arith),
+        (
+          (λ e. omega arith),
+          (
+            (λ e. omega arith),
+            (
+              (λ e. omega arith),
+              (
+                (λ e. omega arith),
+                ((λ e. omega arith), ((λ e. omega arith), ((λ e. omega arith), ((λ e. omega arith), ((λ e. omega arith), tt))))),
+              ),
+            ),
+          ),
+        ),
+      )
+      (rw e at (read .verdict)))
+
+  -- and the fronts of the slices are its table
+  pub read-table : fronts (answer .vertices) (answer .edges) after ≡ tableOf image
+  read-table = let taken = read .taken e in image-fronts image (taken .0) (taken .1) (taken .2)

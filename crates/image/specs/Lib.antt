@@ -1,4 +1,2 @@
--- The definitions of `image`, in the order in which one reads them. Assumes nothing.
-pub mod Bytes
-pub mod Image
+-- The definitions of `image`. Assumes nothing.
 pub mod Contracts

@@ -1,13 +1,16 @@
 // Reading an image: judged whole first, so that a refusal stores nothing.
-ghost use Prim.Native.Nat.{_≤_};
-ghost use lib.ListN.{length};
-ghost use Rattle.image.specs.Contracts.{LayRoom, Laid, Judged, Read};
-use crate::bytes::read_longs;
-use crate::bytes::read_words;
-use crate::header::Header;
+ghost use Rattle.table.specs.Limits.{vertex-limit, edge-limit};
+ghost use Rattle.table.specs.Numbers.{roomFor};
+ghost use Rattle.image.specs.Contracts.{LayRoom, Laid, ImageJudged, Read};
 use crate::header::Sizes;
 use crate::header::judge_header;
 use crate::header::refused;
+use layout::Header;
+use layout::read_longs;
+use layout::read_words;
+use table::EDGE_LIMIT;
+use table::START_LIMIT;
+use table::VERTEX_LIMIT;
 
 // Lays the table that stands in an image at the fronts of three slices.
 fn lay(
@@ -18,19 +21,21 @@ fn lay(
     targets: &mut [u32],
     counts: &mut [u64],
 )
-    requires { ⌜ LayRoom (now image) n m (now starts) (now targets) (now counts) ⌝ }
+    requires { ⌜ LayRoom (now image) n m (record { rows = record { starts = now starts; targets = now targets }; counts = now counts }) ⌝ }
     ensures { λ _.
         ⌜
         Laid
         (now (image .entry))
         n
         m
-        (now (starts .entry))
-        (now (targets .entry))
-        (now (counts .entry))
-        (now (starts .exit))
-        (now (targets .exit))
-        (now (counts .exit))
+        (record {
+          rows = record { starts = now (starts .entry); targets = now (targets .entry) };
+          counts = now (counts .entry);
+        })
+        (record {
+          rows = record { starts = now (starts .exit); targets = now (targets .exit) };
+          counts = now (counts .exit);
+        })
         ⌝ }
 {
     let targets_at = Header::SIZE + 4 * (n + 1);
@@ -42,8 +47,14 @@ fn lay(
 
 // 10, 11, 1, 2, 12, 3, 4, 5, 7, in this order, or 0 with n and m. The table is laid out in the slices lent for it, which are left as they fall.
 fn judge_with(image: &[u8], starts: &mut [u32], targets: &mut [u32], counts: &mut [u64]) -> Sizes
-    requires { ⌜ (2049 ≤ length (now starts)) × (8192 ≤ length (now targets)) × (2048 ≤ length (now counts)) ⌝ }
-    ensures { λ r. ⌜ Judged (now (image .entry)) (r .number) (r .vertices) (r .edges) ⌝ }
+    requires { ⌜
+        (roomFor
+        vertex-limit
+        edge-limit
+        (record { rows = record { starts = now starts; targets = now targets }; counts = now counts }))
+        .met
+        ⌝ }
+    ensures { λ r. ⌜ ImageJudged (now (image .entry)) r ⌝ }
 {
     let sizes = judge_header(image);
     if sizes.number != 0 {
@@ -61,11 +72,11 @@ fn judge_with(image: &[u8], starts: &mut [u32], targets: &mut [u32], counts: &mu
 
 // The same with slices of its own.
 fn judge(image: &[u8]) -> Sizes
-    ensures { λ r. ⌜ Judged (now (image .entry)) (r .number) (r .vertices) (r .edges) ⌝ }
+    ensures { λ r. ⌜ ImageJudged (now (image .entry)) r ⌝ }
 {
-    let mut starts = [0u32; 2049];
-    let mut targets = [0u32; 8192];
-    let mut counts = [0u64; 2048];
+    let mut starts = [0u32; START_LIMIT];
+    let mut targets = [0u32; EDGE_LIMIT];
+    let mut counts = [0u64; VERTEX_LIMIT];
     judge_with(image, &mut starts, &mut targets, &mut counts)
 }
 
@@ -75,15 +86,15 @@ pub fn read(image: &[u8], starts: &mut [u32], targets: &mut [u32], counts: &mut 
         ⌜
         Read
         (now (image .entry))
-        (now (starts .entry))
-        (now (targets .entry))
-        (now (counts .entry))
-        (now (starts .exit))
-        (now (targets .exit))
-        (now (counts .exit))
-        (r .number)
-        (r .vertices)
-        (r .edges)
+        (record {
+          rows = record { starts = now (starts .entry); targets = now (targets .entry) };
+          counts = now (counts .entry);
+        })
+        (record {
+          rows = record { starts = now (starts .exit); targets = now (targets .exit) };
+          counts = now (counts .exit);
+        })
+        r
         ⌝ }
 {
     let sizes = judge(image);

@@ -1,10 +1,12 @@
 // Judges one pair of the table that stands in the image on standard input: `judge S T` prints `superbubble N` with N the vertices in U, or `no`, or `refused N`.
 ghost use Prim.Native.Nat.{_≤_};
+ghost use Rattle.text.specs.Buffer.{Place};
+use layout::Header;
 use report::Answer;
+use table::EDGE_LIMIT;
+use table::START_LIMIT;
+use table::VERTEX_LIMIT;
 use words::Numeral;
-
-// One byte more than the largest image is read, so that a longer stream gets the number that its header earns.
-const MOST: usize = image::Header::LARGEST + 1;
 
 // What a word says of a vertex.
 enum Vertex {
@@ -23,10 +25,16 @@ fn argument(i: usize, room: &mut [u8]) -> Vertex {
 }
 
 // Puts the answer of a pair.
-fn answer_line(out: &mut [u8; 4096], starts: &[u32], targets: &[u32], s: u32, t: u32) -> Answer
-    ensures { λ r. ⌜ r .place ≤ 4097 ⌝ }
+fn answer_line(
+    out: &mut [u8; text::BUFFER],
+    starts: &[u32],
+    targets: &[u32],
+    s: u32,
+    t: u32,
+) -> Answer
+    ensures { λ r. ⌜ Place (r .place) ⌝ }
 {
-    let judged = listing::judge(starts, targets, s, t);
+    let judged = judging::judge(starts, targets, s, t);
     if judged.number != 0 {
         return report::refusal(out, 0, judged.number);
     }
@@ -42,7 +50,7 @@ fn answer_line(out: &mut [u8; 4096], starts: &[u32], targets: &[u32], s: u32, t:
 
 // Reads an image into the slices lent, and puts the answer of a pair of its table, or `refused N`.
 fn image_line(
-    out: &mut [u8; 4096],
+    out: &mut [u8; text::BUFFER],
     image: &[u8],
     starts: &mut [u32],
     targets: &mut [u32],
@@ -50,7 +58,7 @@ fn image_line(
     s: u32,
     t: u32,
 ) -> Answer
-    ensures { λ r. ⌜ r .place ≤ 4097 ⌝ }
+    ensures { λ r. ⌜ Place (r .place) ⌝ }
 {
     let sizes = image::read(image, starts, targets, counts);
     if sizes.number != 0 {
@@ -63,15 +71,15 @@ fn image_line(
 
 // Reads the image on standard input into the room that the words stood in, and prints the answer.
 fn judge_input(s: u32, t: u32, room: &mut [u8]) {
-    let input = files::read(libc::STDIN_FILENO, room, MOST);
+    let input = files::read(libc::STDIN_FILENO, room, Header::STREAM);
     if input.error != 0 {
         messages::unread_input(input.error);
         return;
     }
     let count = input.count;
-    let mut starts = [0u32; 2049];
-    let mut targets = [0u32; 8192];
-    let mut counts = [0u64; 2048];
+    let mut starts = [0u32; START_LIMIT];
+    let mut targets = [0u32; EDGE_LIMIT];
+    let mut counts = [0u64; VERTEX_LIMIT];
     let mut out = io::buffer();
     let answer = image_line(
         &mut out,

@@ -7,7 +7,7 @@ use native.Mathlib.Omega.{arith}
 use borrow.Author.Count.{below-more}
 use lib.ListN.{getD}
 use Rattle.rule.specs.Tables.{count-of}
-use Rattle.rule.proofs.ByNext.{worth}
+use Rattle.rule.specs.Next.{worth}
 use Rattle.kept.specs.Steps.{Chosen}
 
 module _ {row counts best : List ℕ} {t : ℕ} where

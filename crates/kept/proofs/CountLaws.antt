@@ -7,7 +7,7 @@ use native.Mathlib.Omega.{arith}
 use lib.ListN.{length, getD, set, drop, length-set}
 use lib.Seq.{drop-cons, getD-set-other}
 use Rattle.table.specs.Table.{countSum}
-use Rattle.bubble.proofs.Pigeonhole.{Distinct, Distinct.empty, Distinct.fresh}
+use Rattle.bubble.specs.Distinct.{Distinct, Distinct.empty, Distinct.fresh}
 use Rattle.rule.specs.Lists.{Counts, sum}
 use Rattle.rule.specs.Tables.{count-of}
 use Rattle.rule.proofs.Sums.{sum-same}

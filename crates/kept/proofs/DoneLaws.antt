@@ -6,13 +6,13 @@ use mathlib.Core.List.{List, [], _∷_, _++_, List·Memᴰ, List·Memᴰ·head, 
 use native.Mathlib.Decide.{ℕ-discrete}
 use lib.ListN.{length, getD}
 use lib.Seq.{ext-getD}
-use Rattle.table.specs.Table.{Edge}
+use Rattle.table.specs.Table.{Table, edges}
 use Rattle.bubble.specs.Superbubble.{F, Interior}
 use Rattle.bubble.proofs.Reflect.{decided, decides-member}
 use Rattle.bubble.proofs.Pigeonhole.{place-of}
-use Rattle.rule.specs.Lists.{Follows, Follows.here, Follows.later}
-use Rattle.rule.proofs.Candidates.{candidate-laws}
-use Rattle.rule.proofs.BestLaws.{first-takes-all-laws}
+use Rattle.rule.specs.Lists.{Graph, CandidateSet, Follows, Follows.here, Follows.later}
+use Rattle.rule.specs.Fold.{Rule}
+use Rattle.rule.specs.Laws.{RuleLaws, CandidateLaws}
 use Rattle.rule.proofs.Items.{interior-listed, item-unique}
 use Rattle.kept.specs.Keeping.{KeptDone}
 
@@ -22,29 +22,31 @@ followed t {s} {v} [] m = (t, ⊎-elim (λ q. rw q here) (λ i. absurd (List·Me
 followed t {s} {v} (x ∷ l) m =
     ⊎-elim (λ q. (x, rw q here)) (λ i. let (w, f) = followed t l i in (w, later f)) (List·Memᴰ·cases-cons m)
 
-module _ {starts targets counts : List ℕ} {s t : ℕ} {best next out best′ next′ out′ : List ℕ} (k : KeptDone starts targets counts s t best next out best′ next′ out′) where
+module _ {G : Graph → Type 0} {C : CandidateSet} {R : Rule} (L : CandidateLaws G C) (M : RuleLaws R) {table : Table} {s t : ℕ}
+    {best next out best′ next′ out′ : List ℕ} (k : KeptDone C R table s t best next out best′ next′ out′) where
   -- an interior vertex is on the arm or dropped
-  arm-or-dropped : {v : ℕ} → Interior (Edge starts targets) s t v → List·Memᴰ v (k .item .arm) ⊎ List·Memᴰ v (k .item .dropped)
-  arm-or-dropped {v} h = List·Memᴰ·append-cases (k .item .arm) (interior-listed candidate-laws first-takes-all-laws (k .fits) (rw (k .entrance, k .exit) h))
+  arm-or-dropped : {v : ℕ} → Interior (edges (table .rows)) s t v → List·Memᴰ v (k .item .arm) ⊎ List·Memᴰ v (k .item .dropped)
+  arm-or-dropped {v} h = List·Memᴰ·append-cases (k .item .arm) (interior-listed L M (k .fits) (rw (k .entrance, k .exit) h))
 
-  pub followed-or-dropped : {v : ℕ} → F (Edge starts targets) s t v → v ≢ t → ((w : ℕ) × Follows (s ∷ k .item .arm ++ (t ∷ [])) v w) ⊎ List·Memᴰ v (k .item .dropped)
+  pub followed-or-dropped : {v : ℕ} → F (edges (table .rows)) s t v → v ≢ t → ((w : ℕ) × Follows (s ∷ k .item .arm ++ (t ∷ [])) v w) ⊎ List·Memᴰ v (k .item .dropped)
   followed-or-dropped {v} f n =
       elim (ℕ-discrete v s) [
         | yes q ↦ inl (followed t (k .item .arm) (List·Memᴰ·head q))
         | no m ↦
-            let inner : Interior (Edge starts targets) s t v = record { inside = f; not-entrance = m; not-exit = n } in
+            let inner : Interior (edges (table .rows)) s t v = record { inside = f; not-entrance = m; not-exit = n } in
             ⊎-elim (λ a. inl (followed t (k .item .arm) (List·Memᴰ·tail a))) inr (arm-or-dropped inner)
       ]
 
-module _ {starts targets counts : List ℕ} {s t : ℕ} {best best′ next out best₁ next₁ out₁ best₂ next₂ out₂ : List ℕ}
-    (a : KeptDone starts targets counts s t best next out best₁ next₁ out₁) (b : KeptDone starts targets counts s t best′ next out best₂ next₂ out₂) where
+module _ {G : Graph → Type 0} {C : CandidateSet} {R : Rule} (L : CandidateLaws G C) (M : RuleLaws R) {table : Table} {s t : ℕ}
+    {best best′ next out best₁ next₁ out₁ best₂ next₂ out₂ : List ℕ} (a : KeptDone C R table s t best next out best₁ next₁ out₁)
+    (b : KeptDone C R table s t best′ next out best₂ next₂ out₂) where
   same-item : a .item ≡ b .item
-  same-item = item-unique candidate-laws first-takes-all-laws (a .fits) (b .fits) (a .entrance ∙ sym (b .entrance))
+  same-item = item-unique L M (a .fits) (b .fits) (a .entrance ∙ sym (b .entrance))
 
   next-followed : (v w : ℕ) → Follows (s ∷ a .item .arm ++ (t ∷ [])) v w → getD next₁ v 0 ≡ getD next₂ v 0
   next-followed v w f = a .on-path v w f ∙ sym (b .on-path v w (rw same-item at f))
 
-  next-elsewhere : {v : ℕ} → (F (Edge starts targets) s t v → v ≡ t) → getD next₁ v 0 ≡ getD next₂ v 0
+  next-elsewhere : {v : ℕ} → (F (edges (table .rows)) s t v → v ≡ t) → getD next₁ v 0 ≡ getD next₂ v 0
   next-elsewhere {v} h = a .elsewhere v h ∙ sym (b .elsewhere v h)
 
   next-same : (v : ℕ) → getD next₁ v 0 ≡ getD next₂ v 0
@@ -59,7 +61,8 @@ module _ {starts targets counts : List ℕ} {s t : ℕ} {best best′ next out b
                     | yes d ↦ a .off-path v d ∙ sym (b .off-path v (rw same-item at d))
                     | no d ↦
                         next-elsewhere
-                        (λ f. absurd (⊎-elim (λ i. m (List·Memᴰ·tail i)) d (arm-or-dropped a (record { inside = f; not-entrance = λ q. m (List·Memᴰ·head q); not-exit = n }))))
+                        (λ f.
+                        absurd (⊎-elim (λ i. m (List·Memᴰ·tail i)) d (arm-or-dropped L M a (record { inside = f; not-entrance = λ q. m (List·Memᴰ·head q); not-exit = n }))))
                   ]
             ]
       ]
@@ -74,11 +77,11 @@ module _ {starts targets counts : List ℕ} {s t : ℕ} {best best′ next out b
         | no m ↦
             elim (decided (decides-member v (a .item .dropped))) [
               | yes d ↦ a .emptied v d ∙ sym (b .emptied v (rw same-item at d))
-              | no d ↦ let off : Interior (Edge starts targets) s t v → ⊥ = λ i. ⊎-elim m d (arm-or-dropped a i) in a .untouched v off ∙ sym (b .untouched v off)
+              | no d ↦ let off : Interior (edges (table .rows)) s t v → ⊥ = λ i. ⊎-elim m d (arm-or-dropped L M a i) in a .untouched v off ∙ sym (b .untouched v off)
             ]
       ]
 
-  -- what is left in `next` and `out` is settled, whatever stood in `best`, which is room to work in
+  -- what is left in `next` and `out` is determined, whatever stood in `best`, which is room to work in
   pub kept-coincide : (next₁ ≡ next₂) × (out₁ ≡ out₂)
   kept-coincide = (
     ext-getD 0 next₁ next₂ (a .same-next ∙ sym (b .same-next)) (λ v l. next-same v),

@@ -8,32 +8,37 @@ use native.Mathlib.Omega.{arith}
 use native.Mathlib.Decide.{ℕ-discrete}
 use lib.ListN.{length, getD, set, length-set}
 use lib.Seq.{getD-set-same, getD-set-other}
-use Rattle.table.specs.Table.{vertices, Edge}
+use Rattle.table.specs.Limits.{read-limit}
+use Rattle.table.specs.Table.{Rows, Table, size, edges}
 use Rattle.table.proofs.RowLaws.{edge-below}
 use Rattle.bubble.specs.Superbubble.{F, Interior}
 use Rattle.bubble.proofs.Pigeonhole.{getD-in, distinct-apart}
 use Rattle.bubble.proofs.Reflect.{decided, decides-member}
-use Rattle.rule.specs.Lists.{sum, Listing, Follows}
+use Rattle.rule.specs.Lists.{CandidateSet, sum, Listing, Follows}
 use Rattle.rule.specs.Kept.{Kept}
-use Rattle.rule.specs.Fold.{to-first}
+use Rattle.rule.specs.Fold.{to-first, first-takes-all}
 use Rattle.rule.specs.Tables.{count-of}
 use Rattle.rule.proofs.Listings.{rising-distinct, listing-same, listing-exists}
 use Rattle.rule.proofs.Sums.{sum-reordered}
 use Rattle.rule.proofs.Following.{follows-tail}
 use Rattle.rule.proofs.Arms.{inner-distinct}
-use Rattle.rule.proofs.ByNext.{Settled, ByNext, by-next-kept}
+use Rattle.rule.specs.Next.{no-row, Settled}
+use Rattle.rule.proofs.ByNext.{ByNext, by-next-kept}
 use Rattle.kept.specs.Steps.{Settleable, SettledFrom, Siftable, Sifted}
 use Rattle.kept.specs.Keeping.{Keepable, KeptDone}
 use Rattle.kept.proofs.OrderLaws.{inside, visit-place, visited-below, child-later}
 use Rattle.kept.proofs.PassLaws.{length-puts, puts-listed, puts-other, gone-place, gone-distinct, gone-below, gone-sum}
 use Rattle.kept.proofs.PathLaws.{by-next-follows, by-next-first, by-next-some, passed-place, arm-gone, passing-path}
 
-pub keep-settleable : {starts targets counts visited : List ℕ} {t : ℕ} {best next out : List ℕ} → Keepable starts targets counts visited t best next out
-    → Settleable starts targets counts visited t best next
+pub keep-settleable : {C : CandidateSet} {table : Table} {visited : List ℕ} {t : ℕ} {best next out : List ℕ} → Keepable C table visited t best next out
+    → Settleable table visited t best next
 keep-settleable p = record { counted = p .counted; order = p .order; best-room = p .best-room; next-room = p .next-room }
 
-module _ {starts targets counts visited : List ℕ} {t : ℕ} {best next out best′ settled′ : List ℕ} (p : Keepable starts targets counts visited t best next out)
-    (best-long : length best′ ≡ length best) (next-long : length settled′ ≡ length next) (g : SettledFrom starts targets counts visited t next 0 best′ settled′) where
+module _ {C : CandidateSet} {table : Table} {visited : List ℕ} {t : ℕ} {best next out best′ settled′ : List ℕ} (p : Keepable C table visited t best next out)
+    (best-long : length best′ ≡ length best) (next-long : length settled′ ≡ length next) (g : SettledFrom table visited t next 0 best′ settled′) where
+  open Table table using (rows, counts)
+  open Rows rows using (starts, targets)
+
   pub keep-siftable : Siftable counts visited settled′ out
   keep-siftable = record {
     some = p .order .some;
@@ -44,33 +49,33 @@ module _ {starts targets counts visited : List ℕ} {t : ℕ} {best next out bes
     out-room = omega (arith, p .counted .count-each, p .out-room);
   }
 
-  settled : (v : ℕ) → F (Edge starts targets) (getD visited 0 0) t v → v ≢ t → Settled (Edge starts targets) (count-of counts) t (count-of best′) (count-of settled′) v
+  settled : (v : ℕ) → F (edges rows) (getD visited 0 0) t v → v ≢ t → Settled (edges rows) (count-of counts) t (count-of best′) (count-of settled′) v
   settled v f n = let (i, l, q) = visit-place (p .order) v f n in rw q at (g .settled i (omega arith) l)
 
   -- an interior vertex is visited after the entrance
-  interior-place : {v : ℕ} → Interior (Edge starts targets) (getD visited 0 0) t v → (i : ℕ) × (0 < i) × (i < length visited) × (getD visited i 0 ≡ v)
+  interior-place : {v : ℕ} → Interior (edges rows) (getD visited 0 0) t v → (i : ℕ) × (0 < i) × (i < length visited) × (getD visited i 0 ≡ v)
   interior-place {v} h =
       let (i, l, q) = visit-place (p .order) v (h .inside) (h .not-exit) in
       elim (ℕ-discrete i 0) [ yes z ↦ absurd (h .not-entrance (sym q ∙ ap (λ x. getD visited x 0) z)) | no n ↦ (i, omega arith, l, q) ]
 
-  place-interior : {v : ℕ} (i : ℕ) → 0 < i → i < length visited → getD visited i 0 ≡ v → Interior (Edge starts targets) (getD visited 0 0) t v
+  place-interior : {v : ℕ} (i : ℕ) → 0 < i → i < length visited → getD visited i 0 ≡ v → Interior (edges rows) (getD visited 0 0) t v
   place-interior i h l q =
       let (f, n) = inside (p .order) i l in
       rw (← q) (record { inside = f; not-entrance = λ e. omega (arith, p .order .apart i 0 l (omega arith) e); not-exit = n })
 
-  module _ {none : ℕ} {next′ out₁ : List ℕ} {kept dropped : ℕ} (one-more : none ≡ vertices starts + 1)
+  module _ {none : ℕ} {next′ out₁ : List ℕ} {kept dropped : ℕ} (one-more : none ≡ no-row (size rows))
       (w : Sifted counts visited settled′ out none (length visited) next′ out₁ kept dropped) where
     by-next : ByNext (count-of settled′) t (getD visited 0 0) (w .arm)
     by-next = passing-path (λ i l. inside (p .order) i l .1)
         (λ i l n. child-later (p .order) i (getD settled′ (getD visited i 0) 0) l (g .settled i (omega arith) l .child) n) (w .passing)
 
-    kept-path : Kept (Edge starts targets) (count-of counts) (getD visited 0 0) t (w .arm)
+    kept-path : Kept (edges rows) (count-of counts) (getD visited 0 0) t (w .arm)
     kept-path = by-next-kept (p .order .superbubble .bubbloid) settled by-next
 
-    gone-interior : {v : ℕ} → List·Memᴰ v (w .gone) → Interior (Edge starts targets) (getD visited 0 0) t v
+    gone-interior : {v : ℕ} → List·Memᴰ v (w .gone) → Interior (edges rows) (getD visited 0 0) t v
     gone-interior m = let (i, a, b, q) = gone-place (w .passing) m in place-interior i a b q
 
-    gone-rest : (v : ℕ) → List·Memᴰ v (w .gone) ↔ (Interior (Edge starts targets) (getD visited 0 0) t v × (List·Memᴰ v (w .arm) → ⊥))
+    gone-rest : (v : ℕ) → List·Memᴰ v (w .gone) ↔ (Interior (edges rows) (getD visited 0 0) t v × (List·Memᴰ v (w .arm) → ⊥))
     gone-rest v = (
       λ m. (gone-interior m, λ a. arm-gone (p .order .apart) (w .passing) (omega arith) a m),
       λ h. let (i, a, b, q) = interior-place (h .0) in ⊎-elim (λ m. absurd (h .1 m)) (λ m. m) (rw q at (passed-place (w .passing) i a b)),
@@ -93,10 +98,10 @@ module _ {starts targets counts visited : List ℕ} {t : ℕ} {best next out bes
     first-vertex : getD next′ (getD visited 0 0) 0 ≡ getD settled′ (getD visited 0 0) 0
     first-vertex = rw (w .no-rows) (puts-other settled′ (w .gone) none entrance-stays)
 
-    pub first-below : getD next′ (getD visited 0 0) 0 < vertices starts
+    pub first-below : getD next′ (getD visited 0 0) 0 < size rows
     first-below = rw first-vertex (edge-below starts targets (p .counted .well-formed .targets-below) _ _ (g .settled 0 (omega arith) (p .order .some) .child))
 
-    pub dropped-fits : dropped ≤ 1099511627775
+    pub dropped-fits : dropped ≤ read-limit
     dropped-fits = rw (w .dropped-sum) (gone-sum keep-siftable (w .passing) (omega arith))
 
     on-path : (u v : ℕ) → Follows (getD visited 0 0 ∷ w .arm ++ (t ∷ [])) u v → getD next′ u 0 ≡ v
@@ -119,8 +124,8 @@ module _ {starts targets counts visited : List ℕ} {t : ℕ} {best next out bes
     done : {out′ : List ℕ} → length out′ ≡ length out₁
         → ((j : ℕ) → j < length (w .arm) → getD out′ (getD (w .arm) j 0) 0 ≡ getD counts (getD (w .arm) j 0) 0 + to-first dropped (length (w .arm)) j)
         → ((v : ℕ) → List·Memᴰ v (w .gone) → getD out′ v 0 ≡ 0)
-        → ((v : ℕ) → (Interior (Edge starts targets) (getD visited 0 0) t v → ⊥) → getD out′ v 0 ≡ getD out₁ v 0)
-        → KeptDone starts targets counts (getD visited 0 0) t best next out best′ next′ out′
+        → ((v : ℕ) → (Interior (edges rows) (getD visited 0 0) t v → ⊥) → getD out′ v 0 ≡ getD out₁ v 0)
+        → KeptDone C first-takes-all table (getD visited 0 0) t best next out best′ next′ out′
     done long added emptied untouched = record {
       item = record { entrance = getD visited 0 0; exit = t; arm = w .arm; dropped = gone-listed .0 };
       entrance = refl;
@@ -142,7 +147,7 @@ module _ {starts targets counts visited : List ℕ} {t : ℕ} {best next out bes
     }
 
     -- the bare edge is kept: there is no vertex to add to
-    pub keep-bare : getD next′ (getD visited 0 0) 0 ≡ t → KeptDone starts targets counts (getD visited 0 0) t best next out best′ next′ out₁
+    pub keep-bare : getD next′ (getD visited 0 0) 0 ≡ t → KeptDone C first-takes-all table (getD visited 0 0) t best next out best′ next′ out₁
     keep-bare q = done refl (λ j h. absurd (by-next-first by-next (omega arith) .1 (sym first-vertex ∙ q))) (λ v m. out-gone m) (λ v n. refl)
 
     -- the vertex after the entrance gets the dropped counts
@@ -169,6 +174,6 @@ module _ {starts targets counts visited : List ℕ} {t : ℕ} {best next out bes
           let apart : v ≢ first = λ q. omega (arith, distinct-apart (inner-distinct (w .arm) (p .order .superbubble) (kept-path .arm)) (suc j) 0 h (omega arith) (q ∙ sym here)) in
           omega (arith, other v apart, out-arm (getD-in (w .arm) (suc j) h))
 
-      pub keep-first : KeptDone starts targets counts (getD visited 0 0) t best next out best′ next′ (set out₁ first more)
+      pub keep-first : KeptDone C first-takes-all table (getD visited 0 0) t best next out best′ next′ (set out₁ first more)
       keep-first = done (length-set out₁ first more) added (λ v m. other v (λ q. arm-gone (p .order .apart) (w .passing) (omega arith) (rw q first-inner) m) ∙ out-gone m)
           (λ v h. other v (λ q. h (rw q (kept-path .arm .inner first first-inner))))

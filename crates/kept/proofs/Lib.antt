@@ -7,6 +7,6 @@ pub mod SettleLaws
 -- the kept vertices parted from the dropped ones, the first first
 pub mod PassLaws
 pub mod PathLaws
--- the contract, and what it settles
+-- the contract, and that it determines the result
 pub mod KeepLaws
 pub mod DoneLaws

@@ -10,7 +10,7 @@ use Rattle.table.specs.Table.{vertices, Below, Edge}
 use Rattle.bubble.specs.Superbubble.{F, F.on}
 use Rattle.bubble.proofs.Facts.{successor}
 use Rattle.search.specs.Search.{Visited}
-use Rattle.search.proofs.OccurrenceLaws.{in-take, take-in}
+use Rattle.parents.proofs.PlaceLaws.{in-take, take-in}
 
 -- the visited front of the order is an order by itself
 pub visited-front : {starts targets order : List ℕ} {s t k : ℕ} → Visited starts targets order s t k → Visited starts targets (take k order) s t (length (take k order))

@@ -8,11 +8,12 @@ use native.Mathlib.Omega.{arith}
 use native.Mathlib.Decide.{ℕ-discrete}
 use lib.ListN.{length, getD, length-set}
 use lib.Seq.{getD-set-same, getD-set-other}
+use Rattle.table.specs.Limits.{read-limit}
 use Rattle.table.proofs.SumLaws.{count-most}
-use Rattle.bubble.proofs.Pigeonhole.{Distinct, Distinct.empty, Distinct.fresh}
+use Rattle.bubble.specs.Distinct.{Distinct, Distinct.empty, Distinct.fresh}
 use Rattle.rule.specs.Lists.{sum}
 use Rattle.rule.specs.Tables.{count-of}
-use Rattle.kept.specs.Steps.{Passable, Step, Step.keeps, Step.drops, Siftable, puts, Passing, Passing.begun, Passing.keeps, Passing.drops, Sifted}
+use Rattle.kept.specs.Steps.{Partable, Step, Step.keeps, Step.drops, Siftable, puts, Passing, Passing.begun, Passing.keeps, Passing.drops, Sifted}
 use Rattle.kept.proofs.CountLaws.{distinct-sum}
 
 pub length-puts : (xs l : List ℕ) (a : ℕ) → length (puts xs l a) ≡ length xs
@@ -58,7 +59,7 @@ module _ {counts visited next out : List ℕ} (p : Siftable counts visited next 
   gone-below r l m = let (i, a, b, q) = gone-place r m in omega (arith, q, p .below i (omega arith))
 
   -- the sum of their counts fits
-  pub gone-sum : {k : ℕ} {arm gone : List ℕ} {kept : ℕ} → Passing visited next k arm gone kept → k ≤ length visited → sum (count-of counts) gone ≤ 1099511627775
+  pub gone-sum : {k : ℕ} {arm gone : List ℕ} {kept : ℕ} → Passing visited next k arm gone kept → k ≤ length visited → sum (count-of counts) gone ≤ read-limit
   gone-sum r l = omega (arith, distinct-sum counts (gone-distinct r l) (λ v m. gone-below r l m), p .sum-fits)
 
   -- the entrance is passed
@@ -73,8 +74,8 @@ module _ {counts visited next out : List ℕ} (p : Siftable counts visited next 
     sift-out-room = ap length (w .no-counts) ∙ length-puts out (w .gone) 0
 
     module _ (l : k < length visited) where
-      pub sift-passable : Passable counts next′ out′ (getD visited k 0) dropped
-      sift-passable = record {
+      pub sift-partable : Partable counts next′ out′ (getD visited k 0) dropped
+      sift-partable = record {
         counted = p .below k l;
         next-room = omega (arith, p .below k l, p .next-room, sift-next-room);
         out-room = omega (arith, p .below k l, p .out-room, sift-out-room);

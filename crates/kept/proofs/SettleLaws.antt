@@ -7,12 +7,14 @@ use native.Mathlib.Omega.{arith}
 use native.Mathlib.Decide.{ℕ-discrete, decLt}
 use lib.ListN.{length, getD, set, drop}
 use lib.Seq.{getD-set-same, getD-set-other}
-use Rattle.table.specs.Table.{vertices, row, Rises, Edge}
+use Rattle.table.specs.Limits.{read-limit}
+use Rattle.table.specs.Table.{row, Rises, Rows, Table, size, edges}
 use Rattle.table.proofs.RowLaws.{edge-below, rises-before}
 use Rattle.bubble.proofs.Pigeonhole.{place-of, apart-distinct}
 use Rattle.rule.specs.Lists.{Graph, Counts, sum}
 use Rattle.rule.specs.Tables.{count-of}
-use Rattle.rule.proofs.ByNext.{worth, worth-exit, worth-other, Settled, worth-same}
+use Rattle.rule.specs.Next.{worth, Settled}
+use Rattle.rule.proofs.ByNext.{worth-exit, worth-other, worth-same}
 use Rattle.kept.specs.Steps.{Choosable, Chosen, Settleable, SettledFrom}
 use Rattle.kept.proofs.CountLaws.{distinct-sum, sum-from, sum-later}
 use Rattle.kept.proofs.OrderLaws.{some-child, visited-below, child-later}
@@ -35,24 +37,27 @@ settled-still {v = v} {next = next} o b n w = record {
   smallest = λ u e q. rw n (o .smallest u e (sym (w u e) ∙ q ∙ b));
 }
 
-module _ {starts targets counts visited : List ℕ} {t : ℕ} {best₀ next₀ : List ℕ} (p : Settleable starts targets counts visited t best₀ next₀) where
+module _ {table : Table} {visited : List ℕ} {t : ℕ} {best₀ next₀ : List ℕ} (p : Settleable table visited t best₀ next₀) where
+  open Table table using (rows, counts)
+  open Rows rows using (starts, targets)
+
   -- the counts from a place on have a sum that fits
-  order-sum : (k : ℕ) → sum (count-of counts) (drop k visited) ≤ 1099511627775
+  order-sum : (k : ℕ) → sum (count-of counts) (drop k visited) ≤ read-limit
   order-sum k =
       let all = distinct-sum counts (apart-distinct visited (p .order .apart)) (λ v m. let (i, l, q) = place-of m in omega (arith, q, visited-below (p .order) i l, p .counted .count-each)) in
       omega (arith, all, sum-later (count-of counts) visited 0 k (omega arith), p .counted .sum-fits)
 
-  module _ {best next : List ℕ} (k : ℕ) (l : k < length visited) (g : SettledFrom starts targets counts visited t next₀ (suc k) best next)
-      (best-room : vertices starts ≤ length best) (next-room : vertices starts ≤ length next) where
+  module _ {best next : List ℕ} (k : ℕ) (l : k < length visited) (g : SettledFrom table visited t next₀ (suc k) best next)
+      (best-room : size rows ≤ length best) (next-room : size rows ≤ length next) where
     -- the best sum by a child is at most that of the later counts
-    child-most : (u : ℕ) → Edge starts targets (getD visited k 0) u → u ≢ t → getD counts u 0 + getD best u 0 ≤ sum (count-of counts) (drop (suc k) visited)
+    child-most : (u : ℕ) → edges rows (getD visited k 0) u → u ≢ t → getD counts u 0 + getD best u 0 ≤ sum (count-of counts) (drop (suc k) visited)
     child-most u e n =
         let (j, h, b, q) = child-later (p .order) k u l e n in
         let here : getD best (getD visited j 0) 0 ≤ sum (count-of counts) (drop (suc j) visited) = g .most j h b in
         let from : sum (count-of counts) (drop j visited) ≡ getD counts (getD visited j 0) 0 + sum (count-of counts) (drop (suc j) visited) = sum-from (count-of counts) visited j b in
         rw (← q) (omega (arith, here, from, sum-later (count-of counts) visited (suc k) j h))
 
-    edge : (j : ℕ) → j < length (row starts targets (getD visited k 0)) → Edge starts targets (getD visited k 0) (getD (row starts targets (getD visited k 0)) j 0)
+    edge : (j : ℕ) → j < length (row starts targets (getD visited k 0)) → edges rows (getD visited k 0) (getD (row starts targets (getD visited k 0)) j 0)
     edge j h = record { vertex = visited-below (p .order) k l; listed = record { place = j; inside = h; stands = refl } }
 
     pub settle-choosable : Choosable (row starts targets (getD visited k 0)) counts best t
@@ -84,16 +89,16 @@ module _ {starts targets counts visited : List ℕ} {t : ℕ} {best₀ next₀ :
       next-other x n = getD-set-other next v x child 0 n
 
       -- what a child of this or a later vertex is worth stays the same
-      worth-still : (i : ℕ) → k ≤ i → i < length visited → (u : ℕ) → Edge starts targets (getD visited i 0) u
+      worth-still : (i : ℕ) → k ≤ i → i < length visited → (u : ℕ) → edges rows (getD visited i 0) u
           → worth (count-of counts) t (count-of (set best v gain)) u ≡ worth (count-of counts) t (count-of best) u
       worth-still i h b u e = worth-same (count-of counts) (count-of (set best v gain)) (count-of best) (λ n.
           let (j, a, d, q) = child-later (p .order) i u b e n in
           best-other u (λ r. omega (arith, p .order .apart j k d l (q ∙ r))))
 
-      chosen-edge : Edge starts targets v child
+      chosen-edge : edges rows v child
       chosen-edge = rw (c .stands) at (edge (c .place) (c .passed))
 
-      settled-here : Settled (Edge starts targets) (count-of counts) t (count-of (set best v gain)) (count-of (set next v child)) v
+      settled-here : Settled (edges rows) (count-of counts) t (count-of (set best v gain)) (count-of (set next v child)) v
       settled-here = record {
         child = rw next-here chosen-edge;
         reached = rw (next-here, best-here) (worth-still k (omega arith) l child chosen-edge ∙ sym (c .value));
@@ -103,7 +108,7 @@ module _ {starts targets counts visited : List ℕ} {t : ℕ} {best₀ next₀ :
             rw next-here (not-before u e equal);
       }
         where
-          not-before : (u : ℕ) (e : Edge starts targets v u) → worth (count-of counts) t (count-of best) u ≡ gain → child ≤ u
+          not-before : (u : ℕ) (e : edges rows v u) → worth (count-of counts) t (count-of best) u ≡ gain → child ≤ u
           not-before u e q =
               let i = e .listed in
               elim (decLt (i .place) (c .place)) [
@@ -123,7 +128,7 @@ module _ {starts targets counts visited : List ℕ} {t : ℕ} {best₀ next₀ :
             | no n ↦ omega (arith, c .value, worth-other (count-of counts) (count-of best) n, child-most child chosen-edge n)
           ]
 
-      pub settle-more : SettledFrom starts targets counts visited t next₀ k (set best v gain) (set next v child)
+      pub settle-more : SettledFrom table visited t next₀ k (set best v gain) (set next v child)
       settle-more = record {
         settled = λ i h b.
             elim (ℕ-discrete i k) [

@@ -1,14 +1,15 @@
--- What the parts of keeping a path do: what a child is worth, the best child of a row, each visited vertex settled, each passed. Assumes nothing.
+-- What the parts of keeping a path do: what a child is worth, the best child of a row, each visited vertex settled, each kept or dropped. Assumes nothing.
 use Prim.Native.Nat.{ℕ, suc, _+_, _≤_, _<_}
 use mathlib.Core.Path.{_≡_}
 use mathlib.Core.Logic.{_≢_}
 use mathlib.Core.List.{List, [], _∷_, _++_}
 use lib.ListN.{length, getD, set, drop}
-use Rattle.table.specs.Table.{vertices, In, Below, Edge, Counted, countSum}
+use Rattle.table.specs.Limits.{read-limit}
+use Rattle.table.specs.Table.{In, Below, countSum, Table, size, edges, SoundTable}
 use Rattle.search.specs.Search.{Visited}
 use Rattle.rule.specs.Lists.{sum}
 use Rattle.rule.specs.Tables.{count-of}
-use Rattle.rule.proofs.ByNext.{worth, Settled}
+use Rattle.rule.specs.Next.{worth, Settled}
 
 -- what u is worth can be said in 64 bits
 pub record Weighable (counts best : List ℕ) (t u : ℕ) : Type 0 where
@@ -31,20 +32,21 @@ pub record Chosen (row counts best : List ℕ) (t k child gain : ℕ) : Type 0 w
   pub first : (j : ℕ) → j < place → worth (count-of counts) t (count-of best) (getD row j 0) < gain
 
 -- a table with its counts, and the visiting order of a superbubble less its exit
-pub record Settleable (starts targets counts visited : List ℕ) (t : ℕ) (best next : List ℕ) : Type 0 where
-  pub counted : Counted starts targets counts
-  pub order : Visited starts targets visited (getD visited 0 0) t (length visited)
-  pub best-room : vertices starts ≤ length best
-  pub next-room : vertices starts ≤ length next
+pub record Settleable (table : Table) (visited : List ℕ) (t : ℕ) (best next : List ℕ) : Type 0 where
+  pub counted : SoundTable table
+  pub order : Visited (table .rows .starts) (table .rows .targets) visited (getD visited 0 0) t (length visited)
+  pub best-room : size (table .rows) ≤ length best
+  pub next-room : size (table .rows) ≤ length next
 
 -- the visited vertices from place k on have their best sum and their best child; a sum is at most that of all later counts
-pub record SettledFrom (starts targets counts visited : List ℕ) (t : ℕ) (next : List ℕ) (k : ℕ) (best′ next′ : List ℕ) : Type 0 where
-  pub settled : (i : ℕ) → k ≤ i → i < length visited → Settled (Edge starts targets) (count-of counts) t (count-of best′) (count-of next′) (getD visited i 0)
-  pub most : (i : ℕ) → k ≤ i → i < length visited → getD best′ (getD visited i 0) 0 ≤ sum (count-of counts) (drop (suc i) visited)
+pub record SettledFrom (table : Table) (visited : List ℕ) (t : ℕ) (next : List ℕ) (k : ℕ) (best′ next′ : List ℕ) : Type 0 where
+  pub settled : (i : ℕ) → k ≤ i → i < length visited
+      → Settled (edges (table .rows)) (count-of (table .counts)) t (count-of best′) (count-of next′) (getD visited i 0)
+  pub most : (i : ℕ) → k ≤ i → i < length visited → getD best′ (getD visited i 0) 0 ≤ sum (count-of (table .counts)) (drop (suc i) visited)
   pub elsewhere : (v : ℕ) → (In v visited → ⊥) → getD next′ v 0 ≡ getD next v 0
 
--- v can be passed
-pub record Passable (counts next out : List ℕ) (v dropped : ℕ) : Type 0 where
+-- v can be kept or dropped
+pub record Partable (counts next out : List ℕ) (v dropped : ℕ) : Type 0 where
   pub counted : v < length counts
   pub next-room : v < length next
   pub out-room : v < length out
@@ -60,7 +62,7 @@ pub record Siftable (counts visited next out : List ℕ) : Type 0 where
   pub some : 0 < length visited
   pub below : Below (length counts) visited
   pub apart : (i j : ℕ) → i < length visited → j < length visited → getD visited i 0 ≡ getD visited j 0 → i ≡ j
-  pub sum-fits : countSum counts ≤ 1099511627775
+  pub sum-fits : countSum counts ≤ read-limit
   pub next-room : length counts ≤ length next
   pub out-room : length counts ≤ length out
 

@@ -2,7 +2,7 @@
 ghost use mathlib.Core.Path.{_≡_};
 ghost use lib.ListN.{length};
 ghost use Rattle.rule.specs.Tables.{count-of};
-ghost use Rattle.rule.proofs.ByNext.{worth as ByNext·worth};
+ghost use Rattle.rule.specs.Next.{worth as Next·worth};
 ghost use Rattle.kept.specs.Steps.{Weighable, Choosable, Chosen};
 
 // A child, and what a path gains that goes on to it.
@@ -14,7 +14,7 @@ pub struct Choice {
 // What a path gains that goes on to u: nothing at the exit, else the count of u and the best sum from u.
 fn worth(counts: &[u64], best: &[u64], t: u32, u: u32) -> u64
     requires { ⌜ Weighable (now counts) (now best) t u ⌝ }
-    ensures { λ r. ⌜ r ≡ ByNext·worth (count-of (now (counts .entry))) t (count-of (now (best .entry))) u ⌝ }
+    ensures { λ r. ⌜ r ≡ Next·worth (count-of (now (counts .entry))) t (count-of (now (best .entry))) u ⌝ }
 {
     if u == t {
         return 0;
@@ -25,7 +25,17 @@ fn worth(counts: &[u64], best: &[u64], t: u32, u: u32) -> u64
 // The first child of a row that is worth the most.
 pub fn choose(row: &[u32], counts: &[u64], best: &[u64], t: u32) -> Choice
     requires { ⌜ Choosable (now row) (now counts) (now best) t ⌝ }
-    ensures { λ r. ⌜ Chosen (now (row .entry)) (now (counts .entry)) (now (best .entry)) t (length (now (row .entry))) (r .child) (r .gain) ⌝ }
+    ensures { λ r.
+        ⌜
+        Chosen
+        (now (row .entry))
+        (now (counts .entry))
+        (now (best .entry))
+        t
+        (length (now (row .entry)))
+        (r .child)
+        (r .gain)
+        ⌝ }
 {
     let mut child = row[0];
     let mut gain = worth(counts, best, t, child);

@@ -1,6 +1,8 @@
-// The kept path along the visiting order: backward to find each vertex's best child, forward to part the kept vertices from the dropped ones.
+// The kept path along the visiting order: backward to find each vertex's best child, forward to part the kept vertices from the dropped ones. In `next`
+// stands for each vertex of the kept path the vertex after it, and for each dropped one, of n vertices, n + 1, which says that it has no row.
 ghost use lib.ListN.{length, getD};
-ghost use Rattle.kept.specs.Steps.{Settleable, SettledFrom, Passable, Step, Siftable, Sifted};
+ghost use Rattle.rule.specs.Way.{the-fold};
+ghost use Rattle.kept.specs.Steps.{Settleable, SettledFrom, Partable, Step, Siftable, Sifted};
 ghost use Rattle.kept.specs.Keeping.{Keepable, KeptDone};
 use crate::children::choose;
 
@@ -20,8 +22,25 @@ fn settle(
     best: &mut [u64],
     next: &mut [u32],
 )
-    requires { ⌜ Settleable (now starts) (now targets) (now counts) (now visited) t (now best) (now next) ⌝ }
-    ensures { λ r. ⌜ SettledFrom (now (starts .entry)) (now (targets .entry)) (now (counts .entry)) (now (visited .entry)) t (now (next .entry)) 0 (now (best .exit)) (now (next .exit)) ⌝ }
+    requires { ⌜
+        Settleable
+        (record { rows = record { starts = now starts; targets = now targets }; counts = now counts })
+        (now visited)
+        t
+        (now best)
+        (now next)
+        ⌝ }
+    ensures { λ r.
+        ⌜
+        SettledFrom
+        (record { rows = record { starts = now (starts .entry); targets = now (targets .entry) }; counts = now (counts .entry) })
+        (now (visited .entry))
+        t
+        (now (next .entry))
+        0
+        (now (best .exit))
+        (now (next .exit))
+        ⌝ }
 {
     let mut k = visited.len();
     while k > 0 {
@@ -33,10 +52,31 @@ fn settle(
     }
 }
 
-// Passes v: it is the next vertex of the kept path, or it is dropped and has no row and no count any more.
-fn pass(counts: &[u64], next: &mut [u32], out: &mut [u64], none: u32, v: u32, along: Along) -> Along
-    requires { ⌜ Passable (now counts) (now next) (now out) v (along .dropped) ⌝ }
-    ensures { λ r. ⌜ Step (now (counts .entry)) (now (next .entry)) (now (out .entry)) none v (along .kept) (along .dropped) (now (next .exit)) (now (out .exit)) (r .kept) (r .dropped) ⌝ }
+// Keeps v, which is the next vertex of the kept path, or drops it: then it has no row and no count any more.
+fn keep_or_drop(
+    counts: &[u64],
+    next: &mut [u32],
+    out: &mut [u64],
+    rowless: u32,
+    v: u32,
+    along: Along,
+) -> Along
+    requires { ⌜ Partable (now counts) (now next) (now out) v (along .dropped) ⌝ }
+    ensures { λ r.
+        ⌜
+        Step
+        (now (counts .entry))
+        (now (next .entry))
+        (now (out .entry))
+        rowless
+        v
+        (along .kept)
+        (along .dropped)
+        (now (next .exit))
+        (now (out .exit))
+        (r .kept)
+        (r .dropped)
+        ⌝ }
 {
     let x = v as usize;
     if v == along.kept {
@@ -46,7 +86,7 @@ fn pass(counts: &[u64], next: &mut [u32], out: &mut [u64], none: u32, v: u32, al
         };
     }
     let own = counts[x];
-    next[x] = none;
+    next[x] = rowless;
     out[x] = 0;
     Along {
         kept: along.kept,
@@ -54,10 +94,23 @@ fn pass(counts: &[u64], next: &mut [u32], out: &mut [u64], none: u32, v: u32, al
     }
 }
 
-// Passes the visited vertices after the entrance. The order leads along the kept path.
-fn sift(counts: &[u64], visited: &[u32], next: &mut [u32], out: &mut [u64], none: u32) -> Along
+// Keeps or drops the visited vertices after the entrance. The order leads along the kept path.
+fn sift(counts: &[u64], visited: &[u32], next: &mut [u32], out: &mut [u64], rowless: u32) -> Along
     requires { ⌜ Siftable (now counts) (now visited) (now next) (now out) ⌝ }
-    ensures { λ r. ⌜ Sifted (now (counts .entry)) (now (visited .entry)) (now (next .entry)) (now (out .entry)) none (length (now (visited .entry))) (now (next .exit)) (now (out .exit)) (r .kept) (r .dropped) ⌝ }
+    ensures { λ r.
+        ⌜
+        Sifted
+        (now (counts .entry))
+        (now (visited .entry))
+        (now (next .entry))
+        (now (out .entry))
+        rowless
+        (length (now (visited .entry)))
+        (now (next .exit))
+        (now (out .exit))
+        (r .kept)
+        (r .dropped)
+        ⌝ }
 {
     let s = visited[0] as usize;
     let mut along = Along {
@@ -66,7 +119,7 @@ fn sift(counts: &[u64], visited: &[u32], next: &mut [u32], out: &mut [u64], none
     };
     let mut k = 1;
     while k < visited.len() {
-        along = pass(counts, next, out, none, visited[k], along);
+        along = keep_or_drop(counts, next, out, rowless, visited[k], along);
         k += 1;
     }
     along
@@ -84,11 +137,35 @@ pub fn keep(
     next: &mut [u32],
     out: &mut [u64],
 )
-    requires { ⌜ Keepable (now starts) (now targets) (now counts) (now visited) t (now best) (now next) (now out) ⌝ }
-    ensures { λ r. ⌜ KeptDone (now (starts .entry)) (now (targets .entry)) (now (counts .entry)) (getD (now (visited .entry)) 0 0) t (now (best .entry)) (now (next .entry)) (now (out .entry)) (now (best .exit)) (now (next .exit)) (now (out .exit)) ⌝ }
+    requires { ⌜
+        Keepable
+        (the-fold .candidates)
+        (record { rows = record { starts = now starts; targets = now targets }; counts = now counts })
+        (now visited)
+        t
+        (now best)
+        (now next)
+        (now out)
+        ⌝ }
+    ensures { λ r.
+        ⌜
+        KeptDone
+        (the-fold .candidates)
+        (the-fold .rule)
+        (record { rows = record { starts = now (starts .entry); targets = now (targets .entry) }; counts = now (counts .entry) })
+        (getD (now (visited .entry)) 0 0)
+        t
+        (now (best .entry))
+        (now (next .entry))
+        (now (out .entry))
+        (now (best .exit))
+        (now (next .exit))
+        (now (out .exit))
+        ⌝ }
 {
     settle(starts, targets, counts, visited, t, best, next);
-    let along = sift(counts, visited, next, out, starts.len() as u32);
+    let rowless = starts.len() as u32;
+    let along = sift(counts, visited, next, out, rowless);
     let dropped = along.dropped;
     let s = visited[0] as usize;
     let first = next[s];

@@ -1,15 +1,17 @@
 // Lists the superbubbles of the table that stands in the image on standard input: `superbubbles K`, then a line for each, entrance and exit, by rising entrance; or `refused N`.
 ghost use Prim.Native.Nat.{_*_, _≤_};
 ghost use lib.ListN.{length};
+ghost use Rattle.text.specs.Buffer.{Place};
+use layout::Header;
 use report::Answer;
-
-// One byte more than the largest image is read, so that a longer stream gets the number that its header earns.
-const MOST: usize = image::Header::LARGEST + 1;
+use table::EDGE_LIMIT;
+use table::START_LIMIT;
+use table::VERTEX_LIMIT;
 
 // Puts a line for each pair.
-fn pair_lines(out: &mut [u8; 4096], at: usize, pairs: &[u32], found: usize) -> usize
-    requires { ⌜ (2 * found ≤ length (now pairs)) × (at ≤ 4097) ⌝ }
-    ensures { λ r. ⌜ r ≤ 4097 ⌝ }
+fn pair_lines(out: &mut [u8; text::BUFFER], at: usize, pairs: &[u32], found: usize) -> usize
+    requires { ⌜ (2 * found ≤ length (now pairs)) × (Place at) ⌝ }
+    ensures { λ r. ⌜ Place r ⌝ }
 {
     let mut place = at;
     let mut k = 0;
@@ -24,14 +26,14 @@ fn pair_lines(out: &mut [u8; 4096], at: usize, pairs: &[u32], found: usize) -> u
 
 // Puts the list of a table, or `refused N`.
 fn list_lines(
-    out: &mut [u8; 4096],
+    out: &mut [u8; text::BUFFER],
     at: usize,
     starts: &[u32],
     targets: &[u32],
     pairs: &mut [u32],
 ) -> Answer
-    requires { ⌜ at ≤ 4097 ⌝ }
-    ensures { λ r. ⌜ r .place ≤ 4097 ⌝ }
+    requires { ⌜ Place at ⌝ }
+    ensures { λ r. ⌜ Place (r .place) ⌝ }
 {
     let listed = listing::list(starts, targets, pairs);
     if listed.number != 0 {
@@ -47,14 +49,14 @@ fn list_lines(
 
 // Reads an image into the slices lent, and puts the list of its table, or `refused N`.
 fn image_lines(
-    out: &mut [u8; 4096],
+    out: &mut [u8; text::BUFFER],
     image: &[u8],
     starts: &mut [u32],
     targets: &mut [u32],
     counts: &mut [u64],
     pairs: &mut [u32],
 ) -> Answer
-    ensures { λ r. ⌜ r .place ≤ 4097 ⌝ }
+    ensures { λ r. ⌜ Place (r .place) ⌝ }
 {
     let sizes = image::read(image, starts, targets, counts);
     if sizes.number != 0 {
@@ -67,17 +69,17 @@ fn image_lines(
 
 // Reads the image on standard input and prints the list of its table.
 fn list_input() {
-    let mut stream = [0u8; MOST];
-    let input = files::read(libc::STDIN_FILENO, &mut stream, MOST);
+    let mut stream = [0u8; Header::STREAM];
+    let input = files::read(libc::STDIN_FILENO, &mut stream, Header::STREAM);
     if input.error != 0 {
         messages::unread_input(input.error);
         return;
     }
     let count = input.count;
-    let mut starts = [0u32; 2049];
-    let mut targets = [0u32; 8192];
-    let mut counts = [0u64; 2048];
-    let mut pairs = [0u32; 4096];
+    let mut starts = [0u32; START_LIMIT];
+    let mut targets = [0u32; EDGE_LIMIT];
+    let mut counts = [0u64; VERTEX_LIMIT];
+    let mut pairs = [0u32; 2 * VERTEX_LIMIT];
     let mut out = io::buffer();
     let answer = image_lines(
         &mut out,

@@ -23,8 +23,9 @@ listed-none P =
     }
 
 -- lists of the same pairs
-pub listed-same : (P Q : ℕ → ℕ → Type 0) (pairs : List ℕ) (found : ℕ) → ((s t : ℕ) → P s t → Q s t) → ((s t : ℕ) → Q s t → P s t) → Listed P pairs found → Listed Q pairs found
-listed-same P Q pairs found there back l =
+pub listed-same : {P Q : ℕ → ℕ → Type 0} {pairs : List ℕ} {found : ℕ} → Listed P pairs found → ((s t : ℕ) → P s t → Q s t) → ((s t : ℕ) → Q s t → P s t)
+    → Listed Q pairs found
+listed-same {pairs = pairs} l there back =
     record {
       long = l .long;
       rising = l .rising;
@@ -33,14 +34,14 @@ listed-same P Q pairs found there back l =
     }
 
 -- v is no entrance
-pub listed-without : (P : ℕ → ℕ → Type 0) (v : ℕ) (pairs : List ℕ) (found : ℕ) → ((t : ℕ) → P v t → ⊥) → Listed (Before P v) pairs found → Listed (Before P (v + 1)) pairs found
-listed-without P v pairs found none l =
-    listed-same (Before P v) (Before P (v + 1)) pairs found (λ s t p. (omega (arith, p .0), p .1)) (λ s t p. (below s t p, p .1)) l
+pub listed-without : (P : ℕ → ℕ → Type 0) (v : ℕ) {pairs : List ℕ} {found : ℕ} → ((t : ℕ) → P v t → ⊥) → Listed (Before P v) pairs found
+    → Listed (Before P (v + 1)) pairs found
+listed-without P v none l = listed-same l (λ s t p. (omega (arith, p .0), p .1)) (λ s t p. (below s t p, p .1))
   where
     below : (s t : ℕ) → Before P (v + 1) s t → s < v
     below s t p = elim (ℕ-discrete s v) [ yes e ↦ absurd (none t (rw e at (p .1))) | no n ↦ omega (arith, p .0) ]
 
-module _ (P : ℕ → ℕ → Type 0) (v t : ℕ) (pairs : List ℕ) (found : ℕ) (pair : P v t) (one : (x : ℕ) → P v x → x ≡ t) (l : Listed (Before P v) pairs found) where
+module _ (P : ℕ → ℕ → Type 0) (v t : ℕ) {pairs : List ℕ} {found : ℕ} (pair : P v t) (one : (x : ℕ) → P v x → x ≡ t) (l : Listed (Before P v) pairs found) where
   old : (k : ℕ) → k < 2 * found → getD (pairs ++ v ∷ t ∷ []) k 0 ≡ getD pairs k 0
   old k h = List·getD-append pairs (v ∷ t ∷ []) 0 k (omega (arith, l .long))
 
@@ -94,61 +95,61 @@ module _ (P : ℕ → ℕ → Type 0) (v t : ℕ) (pairs : List ℕ) (found : �
         whole = more-whole;
       }
 
--- entrances rise over any number of lines
-entrances-rise : (P : ℕ → ℕ → Type 0) (pairs : List ℕ) (found : ℕ) → Listed P pairs found → (i steps : ℕ) → i + suc steps < found → getD pairs (2 * i) 0 < getD pairs (2 * (i + suc steps)) 0
-entrances-rise P pairs found l i zero h = let one : i + 1 ≡ i + suc zero = omega arith in rw one at (l .rising i (omega arith))
-entrances-rise P pairs found l i (suc steps) h =
-    let next : (i + suc steps) + 1 ≡ i + suc (suc steps) = omega arith in
-    let last : getD pairs (2 * (i + suc steps)) 0 < getD pairs (2 * (i + suc (suc steps))) 0 = rw next at (l .rising (i + suc steps) (omega arith)) in
-    omega (arith, entrances-rise P pairs found l i steps (omega arith))
+module _ {P : ℕ → ℕ → Type 0} {pairs : List ℕ} {found : ℕ} (l : Listed P pairs found) where
+  -- entrances rise over any number of lines
+  entrances-rise : (i steps : ℕ) → i + suc steps < found → getD pairs (2 * i) 0 < getD pairs (2 * (i + suc steps)) 0
+  entrances-rise i zero h = let one : i + 1 ≡ i + suc zero = omega arith in rw one at (l .rising i (omega arith))
+  entrances-rise i (suc steps) h =
+      let next : (i + suc steps) + 1 ≡ i + suc (suc steps) = omega arith in
+      let last : getD pairs (2 * (i + suc steps)) 0 < getD pairs (2 * (i + suc (suc steps))) 0 = rw next at (l .rising (i + suc steps) (omega arith)) in
+      omega (arith, entrances-rise i steps (omega arith))
 
-entrances-in-order : (P : ℕ → ℕ → Type 0) (pairs : List ℕ) (found : ℕ) → Listed P pairs found → (i j : ℕ) → i < j → j < found → getD pairs (2 * i) 0 < getD pairs (2 * j) 0
-entrances-in-order P pairs found l i j h k =
-    let gap : i + suc (j - suc i) ≡ j = omega arith in
-    rw gap at (entrances-rise P pairs found l i (j - suc i) (omega arith))
+  entrances-in-order : (i j : ℕ) → i < j → j < found → getD pairs (2 * i) 0 < getD pairs (2 * j) 0
+  entrances-in-order i j h k =
+      let gap : i + suc (j - suc i) ≡ j = omega arith in
+      rw gap at (entrances-rise i (j - suc i) (omega arith))
 
-entrances-at-most : (P : ℕ → ℕ → Type 0) (pairs : List ℕ) (found : ℕ) → Listed P pairs found → (i j : ℕ) → i ≤ j → j < found → getD pairs (2 * i) 0 ≤ getD pairs (2 * j) 0
-entrances-at-most P pairs found l i j h k =
-    elim (ℕ-discrete i j) [ yes e ↦ rw e (le-refl _) | no n ↦ le-of-lt (entrances-in-order P pairs found l i j (omega arith) k) ]
+  entrances-at-most : (i j : ℕ) → i ≤ j → j < found → getD pairs (2 * i) 0 ≤ getD pairs (2 * j) 0
+  entrances-at-most i j h k = elim (ℕ-discrete i j) [ yes e ↦ rw e (le-refl _) | no n ↦ le-of-lt (entrances-in-order i j (omega arith) k) ]
 
 -- the same entrance stands in the line i of both lists
 abbrev SameLine : List ℕ → List ℕ → ℕ → ℕ → Type 0
 SameLine pairs₁ pairs₂ found₂ i = (i < found₂) × (getD pairs₁ (2 * i) 0 ≡ getD pairs₂ (2 * i) 0)
 
 -- where all earlier lines agree, the entrance of a line of the first list stands no earlier in the second
-not-earlier : (P : ℕ → ℕ → Type 0) (pairs₁ pairs₂ : List ℕ) (found₁ found₂ : ℕ) → Listed P pairs₁ found₁ → Listed P pairs₂ found₂ → (i : ℕ) → i < found₁
+not-earlier : {P : ℕ → ℕ → Type 0} {pairs₁ pairs₂ : List ℕ} {found₁ found₂ : ℕ} → Listed P pairs₁ found₁ → Listed P pairs₂ found₂ → (i : ℕ) → i < found₁
     → ((j : ℕ) → j < i → SameLine pairs₁ pairs₂ found₂ j) → (k : ℕ) × (i ≤ k) × (k < found₂) × (getD pairs₂ (2 * k) 0 ≡ getD pairs₁ (2 * i) 0)
-not-earlier P pairs₁ pairs₂ found₁ found₂ a b i h same =
+not-earlier {pairs₁ = pairs₁} a b i h same =
     let stands = b .whole (getD pairs₁ (2 * i) 0) (getD pairs₁ (2 * i + 1) 0) (a .sound i h) in
     elim (decLt (stands .line) i) [
-      | yes l ↦ absurd (let no : ⊥ = omega (arith, same (stands .line) l .1, stands .entrance, entrances-in-order P pairs₁ found₁ a (stands .line) i l h) in no)
+      | yes l ↦ absurd (let no : ⊥ = omega (arith, same (stands .line) l .1, stands .entrance, entrances-in-order a (stands .line) i l h) in no)
       | no n ↦ (stands .line, omega arith, stands .within, stands .entrance)
     ]
 
-module _ (P : ℕ → ℕ → Type 0) (pairs₁ pairs₂ : List ℕ) (found₁ found₂ : ℕ) (a : Listed P pairs₁ found₁) (b : Listed P pairs₂ found₂) where
-  lines-agree : (n i : ℕ) → i < n → i < found₁ → SameLine pairs₁ pairs₂ found₂ i
-  lines-agree zero i l h = absurd (let no : ⊥ = omega arith in no)
-  lines-agree (suc n) i l h =
-      let earlier : (j : ℕ) → j < i → SameLine pairs₁ pairs₂ found₂ j = λ j k. lines-agree n j (omega arith) (omega arith) in
-      let (k, up, in-second, e) = not-earlier P pairs₁ pairs₂ found₁ found₂ a b i h earlier in
-      let within : i < found₂ = omega arith in
-      let (k′, up′, in-first, e′) = not-earlier P pairs₂ pairs₁ found₂ found₁ b a i within (λ j l. (omega arith, sym (earlier j l .1))) in
-      (within, omega (arith, entrances-at-most P pairs₂ found₂ b i k up in-second, entrances-at-most P pairs₁ found₁ a i k′ up′ in-first, e, e′))
+lines-agree : {P : ℕ → ℕ → Type 0} {pairs₁ pairs₂ : List ℕ} {found₁ found₂ : ℕ} → Listed P pairs₁ found₁ → Listed P pairs₂ found₂ → (n i : ℕ) → i < n → i < found₁
+    → SameLine pairs₁ pairs₂ found₂ i
+lines-agree a b zero i l h = absurd (let no : ⊥ = omega arith in no)
+lines-agree {pairs₁ = pairs₁} {pairs₂ = pairs₂} {found₂ = found₂} a b (suc n) i l h =
+    let earlier : (j : ℕ) → j < i → SameLine pairs₁ pairs₂ found₂ j = λ j k. lines-agree a b n j (omega arith) (omega arith) in
+    let (k, up, in-second, e) = not-earlier a b i h earlier in
+    let within : i < found₂ = omega arith in
+    let (k′, up′, in-first, e′) = not-earlier b a i within (λ j l. (omega arith, sym (earlier j l .1))) in
+    (within, omega (arith, entrances-at-most b i k up in-second, entrances-at-most a i k′ up′ in-first, e, e′))
 
--- a list is determined by what it lists
-pub listed-determined : (P : ℕ → ℕ → Type 0) → ((s t x : ℕ) → P s t → P s x → t ≡ x) → (pairs₁ pairs₂ : List ℕ) (found₁ found₂ : ℕ)
-    → Listed P pairs₁ found₁ → Listed P pairs₂ found₂ → (found₁ ≡ found₂) × (pairs₁ ≡ pairs₂)
-listed-determined P one pairs₁ pairs₂ found₁ found₂ a b =
+-- a list is determined by what it lists, where an entrance has one exit
+pub listed-determined : {P : ℕ → ℕ → Type 0} {pairs₁ pairs₂ : List ℕ} {found₁ found₂ : ℕ} → Listed P pairs₁ found₁ → Listed P pairs₂ found₂
+    → ((s t x : ℕ) → P s t → P s x → t ≡ x) → (found₁ ≡ found₂) × (pairs₁ ≡ pairs₂)
+listed-determined {pairs₁ = pairs₁} {pairs₂ = pairs₂} {found₁ = found₁} {found₂ = found₂} a b one =
     let many : found₁ ≡ found₂ = same-number in
     (many, ext-getD 0 pairs₁ pairs₂ (omega (arith, a .long, b .long)) entry)
   where
     line : (i : ℕ) → i < found₁ → SameLine pairs₁ pairs₂ found₂ i
-    line i h = lines-agree P pairs₁ pairs₂ found₁ found₂ a b (suc i) i (omega arith) h
+    line i h = lines-agree a b (suc i) i (omega arith) h
 
     same-number : found₁ ≡ found₂
     same-number =
         elim (decLt found₁ found₂) [
-          | yes l ↦ absurd (let no : ⊥ = omega (arith, lines-agree P pairs₂ pairs₁ found₂ found₁ b a (suc found₁) found₁ (omega arith) l .0) in no)
+          | yes l ↦ absurd (let no : ⊥ = omega (arith, lines-agree b a (suc found₁) found₁ (omega arith) l .0) in no)
           | no n ↦
               elim (decLt found₂ found₁) [
                 | yes l ↦ absurd (let no : ⊥ = omega (arith, line found₂ l .0) in no)

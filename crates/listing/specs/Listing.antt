@@ -1,14 +1,13 @@
--- What list and judge settle: the number, every field, and all memory lent, on a refusal too. Assumes nothing.
+-- What list states: the number, how many were found, and all memory lent, on a refusal too. Assumes nothing.
 use Prim.Native.Nat.{ℕ, _+_, _*_, _≤_, _<_}
 use mathlib.Core.Path.{_≡_}
-use mathlib.Core.Bool.{Bool, true, false}
 use mathlib.Core.List.{List, [], _∷_, _++_}
 use lib.ListN.{length, getD, drop}
-use Rattle.table.specs.Verdict.{Demand, Verdict, Says}
-use Rattle.table.specs.Table.{vertices, Edge}
+use Rattle.table.specs.Verdict.{Demand, Verdict}
+use Rattle.table.specs.Table.{Rows, size, edges}
 use Rattle.table.specs.Numbers.{tableDemands}
-use Rattle.bubble.specs.Superbubble.{F, Superbubble}
-use Rattle.vertices.specs.Vertices.{Numbers}
+use Rattle.bubble.specs.Superbubble.{Superbubble}
+use Rattle.listing.specs.declared.Found.{Found}
 
 -- the pair s, t stands in the list as entrance and exit
 pub record Stands (pairs : List ℕ) (found s t : ℕ) : Type 0 where
@@ -25,12 +24,8 @@ pub record Listed (P : ℕ → ℕ → Type 0) (pairs : List ℕ) (found : ℕ) 
   pub whole : (s t : ℕ) → P s t → Stands pairs found s t
 
 -- 8: a list slice below 2n
-abbrev pub listRoom : List ℕ → List ℕ → Demand
-listRoom starts out = record { number = 8; met = 2 * vertices starts ≤ length out }
-
--- 13: s or t is n or more
-abbrev pub pairInside : List ℕ → ℕ → ℕ → Demand
-pairInside starts s t = record { number = 13; met = (s < vertices starts) × (t < vertices starts) }
+abbrev pub listRoom : Rows → List ℕ → Demand
+listRoom rows out = record { number = 8; met = 2 * size rows ≤ length out }
 
 -- the slice, before and after, with the list of the pairs of which P holds at its front
 pub record ListedAt (P : ℕ → ℕ → Type 0) (out out′ : List ℕ) (found : ℕ) : Type 0 where
@@ -38,20 +33,8 @@ pub record ListedAt (P : ℕ → ℕ → Type 0) (out out′ : List ℕ) (found 
   pub listed : Listed P pairs found
   pub front : out′ ≡ pairs ++ drop (2 * found) out
 
--- what list settles: number, how many were found, and the slice before and after
-pub record ListDone (starts targets out out′ : List ℕ) (number found : ℕ) : Type 0 where
-  pub verdict : Verdict (tableDemands starts targets ++ listRoom starts out ∷ []) number
-  pub taken : number ≡ 0 → ListedAt (Superbubble (Edge starts targets)) out out′ found
-  pub refused : (number ≡ 0 → ⊥) → (found ≡ 0) × (out′ ≡ out)
-
--- yes exactly if s, t is a superbubble, and then the number of vertices in U, else 0
-pub record Judged (starts targets : List ℕ) (s t : ℕ) (yes : Bool) (size : ℕ) : Type 0 where
-  pub answer : Says yes (Superbubble (Edge starts targets) s t)
-  pub vertices-of-yes : yes ≡ true → Numbers (F (Edge starts targets) s t) size
-  pub none-of-no : yes ≡ false → size ≡ 0
-
--- what judge settles: number, the answer, and the number of vertices
-pub record JudgeDone (starts targets : List ℕ) (s t number : ℕ) (yes : Bool) (size : ℕ) : Type 0 where
-  pub verdict : Verdict (tableDemands starts targets ++ pairInside starts s t ∷ []) number
-  pub taken : number ≡ 0 → Judged starts targets s t yes size
-  pub refused : (number ≡ 0 → ⊥) → (yes ≡ false) × (size ≡ 0)
+-- what list states: number, how many were found, and the slice before and after
+pub record ListDone (rows : Rows) (out out′ : List ℕ) (answer : Found) : Type 0 where
+  pub verdict : Verdict (tableDemands rows ++ listRoom rows out ∷ []) (answer .number)
+  pub taken : answer .number ≡ 0 → ListedAt (Superbubble (edges rows)) out out′ (answer .found)
+  pub refused : (answer .number ≡ 0 → ⊥) → (answer .found ≡ 0) × (out′ ≡ out)

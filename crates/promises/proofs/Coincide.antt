@@ -1,53 +1,70 @@
--- Two results that a contract allows coincide, for each public function of the library: number, fields and all memory lent.
--- Working room is left open: the order of a search, the colours of the cycle test, the best sums of a kept path. No result depends on what stood in it: two calls with different
--- working room coincide. Assumes nothing.
+-- Two results that a contract allows coincide, for each public function of the library: number, fields and all memory lent. What escapes is in docs/CONTRACTS.md.
+-- Working room is left open: the order of a search, the colours of the cycle test, the best sums of a kept path. No result depends on what stood in it: two calls with
+-- different working room coincide. Assumes nothing.
 use Prim.Native.Nat.{ℕ, _<_, _≤_}
 use mathlib.Core.Path.{_≡_, sym, _∙_}
 use mathlib.Core.Bool.{Bool}
 use mathlib.Core.List.{List}
 use lib.ListN.{getD}
+use Rattle.table.specs.Limits.{read-limit}
 use Rattle.table.specs.Verdict.{Verdict, Says}
-use Rattle.table.specs.Table.{row, In, Edge, Rises, countSum}
+use Rattle.table.specs.Table.{In, Rises, countSum, Rows, Table, edges}
 use Rattle.table.specs.Numbers.{tableDemands, countedDemands}
 use Rattle.table.proofs.VerdictLaws.{says-unique, verdict-unique}
-use Rattle.image.specs.Bytes.{over}
-use Rattle.image.specs.Image.{imageLength, headerOf}
-use Rattle.image.specs.Contracts.{Read, Written}
-use Rattle.image.proofs.Determined.{read-determined, write-determined}
+use Rattle.image.specs.declared.header.Sizes.{Sizes}
+use Rattle.image.specs.Contracts.{Read}
+use Rattle.image.proofs.Determined.{read-determined}
+use Rattle.writing.specs.declared.Extent.{Extent}
+use Rattle.writing.specs.Writing.{Written}
+use Rattle.writing.proofs.Determined.{write-determined}
 use Rattle.vertices.specs.Vertices.{Added, Size}
 use Rattle.vertices.proofs.Determined.{put-determined}
+use Rattle.parents.specs.Parents.{Parents, Zeros, Tallied}
+use Rattle.parents.proofs.TallyLaws.{zeros-same, tallied-same, parents-same}
+use Rattle.walking.specs.Walking.{Walked}
+use Rattle.walking.proofs.Determined.{walk-determined}
 use Rattle.search.specs.declared.Exit.{Exit}
-use Rattle.search.specs.Search.{Parents, Visited, Sought}
-use Rattle.search.specs.Steps.{Zeros}
-use Rattle.search.proofs.TallyLaws.{zeros-same, parents-same}
+use Rattle.search.specs.Search.{Visited, Sought}
 use Rattle.search.proofs.AnswerLaws.{shown, answer-unique}
-use Rattle.cycle.specs.Cycle.{Cyclic}
-use Rattle.listing.specs.Listing.{ListDone, JudgeDone}
-use Rattle.listing.proofs.Determined.{list-determined, judge-determined}
-use Rattle.candidates.specs.Candidates.{Found}
+use Rattle.bubble.specs.Cycle.{Cyclic}
+use Rattle.listing.specs.declared.Found.{Found}
+use Rattle.listing.specs.Listing.{ListDone}
+use Rattle.listing.proofs.Determined.{list-determined}
+use Rattle.judging.specs.declared.Judgement.{Judgement}
+use Rattle.judging.specs.Judging.{JudgeDone}
+use Rattle.judging.proofs.Determined.{judge-determined}
+use Rattle.candidates.specs.Candidates.{FindDone}
 use Rattle.candidates.proofs.FoundLaws.{found-determined}
 use Rattle.kept.specs.Keeping.{KeptDone}
 use Rattle.kept.proofs.DoneLaws.{kept-coincide}
+use Rattle.turns.specs.declared.Turned.{Turned}
+use Rattle.turns.specs.Turns.{TurnDone}
+use Rattle.turns.proofs.Determined.{turn-determined}
 use Rattle.staying.specs.Staying.{TableWritten}
 use Rattle.staying.proofs.Determined.{write-table-determined}
+use Rattle.rule.specs.Fold.{Candidate, first-takes-all}
+use Rattle.rule.specs.Way.{the-fold}
+use Rattle.rule.proofs.TheFold.{the-fold-lawful}
+use Rattle.folding.specs.declared.folds.Folded.{Folded}
 use Rattle.folding.specs.Folding.{FoldDone}
 use Rattle.folding.proofs.Demand.{fold-determined}
 
+-- Where the contract is an equation: `table::row`, `table::stated_limits`, `layout::Header::length`, `largest` and `put`, all that `layout` reads and puts of bytes,
+-- and `parents::copy`.
+pub equation-coincides : {A : Type 0} {stated result₁ result₂ : A} → result₁ ≡ stated → result₂ ≡ stated → result₁ ≡ result₂
+equation-coincides a b = a ∙ sym b
+
 -- `table::check`
-pub check-coincides : (starts targets : List ℕ) (r₁ r₂ : ℕ) → Verdict (tableDemands starts targets) r₁ → Verdict (tableDemands starts targets) r₂ → r₁ ≡ r₂
-check-coincides starts targets = verdict-unique (tableDemands starts targets)
+pub check-coincides : (rows : Rows) (r₁ r₂ : ℕ) → Verdict (tableDemands rows) r₁ → Verdict (tableDemands rows) r₂ → r₁ ≡ r₂
+check-coincides rows = verdict-unique (tableDemands rows)
 
 -- `table::check_counted`
-pub check-counted-coincides : (starts targets counts : List ℕ) (r₁ r₂ : ℕ) → Verdict (countedDemands starts targets counts) r₁ → Verdict (countedDemands starts targets counts) r₂ → r₁ ≡ r₂
-check-counted-coincides starts targets counts = verdict-unique (countedDemands starts targets counts)
+pub check-counted-coincides : (table : Table) (r₁ r₂ : ℕ) → Verdict (countedDemands table) r₁ → Verdict (countedDemands table) r₂ → r₁ ≡ r₂
+check-counted-coincides table = verdict-unique (countedDemands table)
 
 -- `table::sum_fits`
-pub sum-fits-coincides : (counts : List ℕ) (r₁ r₂ : Bool) → Says r₁ (countSum counts ≤ 1099511627775) → Says r₂ (countSum counts ≤ 1099511627775) → r₁ ≡ r₂
-sum-fits-coincides counts = says-unique (countSum counts ≤ 1099511627775)
-
--- `table::row`
-pub row-coincides : (starts targets : List ℕ) (v : ℕ) (row₁ row₂ : List ℕ) → row₁ ≡ row starts targets v → row₂ ≡ row starts targets v → row₁ ≡ row₂
-row-coincides starts targets v row₁ row₂ a b = a ∙ sym b
+pub sum-fits-coincides : (counts : List ℕ) (r₁ r₂ : Bool) → Says r₁ (countSum counts ≤ read-limit) → Says r₂ (countSum counts ≤ read-limit) → r₁ ≡ r₂
+sum-fits-coincides counts = says-unique (countSum counts ≤ read-limit)
 
 -- `table::rises`
 pub rises-coincides : (list : List ℕ) (r₁ r₂ : Bool) → Says r₁ (Rises list) → Says r₂ (Rises list) → r₁ ≡ r₂
@@ -58,23 +75,14 @@ pub holds-coincides : (list : List ℕ) (v : ℕ) (r₁ r₂ : Bool) → Says r�
 holds-coincides list v = says-unique (In v list)
 
 -- `image::read`
-pub read-coincides : (image starts targets counts starts₁ targets₁ counts₁ starts₂ targets₂ counts₂ : List ℕ) (number₁ n₁ m₁ number₂ n₂ m₂ : ℕ)
-    → Read image starts targets counts starts₁ targets₁ counts₁ number₁ n₁ m₁ → Read image starts targets counts starts₂ targets₂ counts₂ number₂ n₂ m₂
-    → (number₁ ≡ number₂) × (n₁ ≡ n₂) × (m₁ ≡ m₂) × (starts₁ ≡ starts₂) × (targets₁ ≡ targets₂) × (counts₁ ≡ counts₂)
+pub read-coincides : {image : List ℕ} {lent after₁ after₂ : Table} {answer₁ answer₂ : Sizes} → Read image lent after₁ answer₁ → Read image lent after₂ answer₂
+    → (answer₁ ≡ answer₂) × (after₁ ≡ after₂)
 read-coincides = read-determined
 
--- `image::write`
-pub write-coincides : (starts targets counts image image₁ image₂ : List ℕ) (number₁ size₁ number₂ size₂ : ℕ) → Written starts targets counts image image₁ number₁ size₁
-    → Written starts targets counts image image₂ number₂ size₂ → (number₁ ≡ number₂) × (size₁ ≡ size₂) × (image₁ ≡ image₂)
+-- `writing::write`
+pub write-coincides : {table : Table} {image image₁ image₂ : List ℕ} {answer₁ answer₂ : Extent} → Written table image image₁ answer₁ → Written table image image₂ answer₂
+    → (answer₁ ≡ answer₂) × (image₁ ≡ image₂)
 write-coincides = write-determined
-
--- `image::Header::length`
-pub length-coincides : (n m r₁ r₂ : ℕ) → r₁ ≡ imageLength n m → r₂ ≡ imageLength n m → r₁ ≡ r₂
-length-coincides n m r₁ r₂ a b = a ∙ sym b
-
--- `image::Header::put`
-pub header-coincides : (n m : ℕ) (out out₁ out₂ : List ℕ) → out₁ ≡ over out 0 (headerOf n m) → out₂ ≡ over out 0 (headerOf n m) → out₁ ≡ out₂
-header-coincides n m out out₁ out₂ a b = a ∙ sym b
 
 -- `vertices::put`
 pub put-coincides : {words words₁ words₂ : List ℕ} {v : ℕ} → Added words words₁ v → Added words words₂ v → words₁ ≡ words₂
@@ -84,22 +92,28 @@ put-coincides = put-determined
 pub size-coincides : {words : List ℕ} {r₁ r₂ : ℕ} → Size words r₁ → Size words r₂ → r₁ ≡ r₂
 size-coincides a b = a .sum ∙ sym (b .sum)
 
--- `search::clear`
+-- `parents::clear`
 pub clear-coincides : {counts counts₁ counts₂ : List ℕ} → Zeros counts counts₁ → Zeros counts counts₂ → counts₁ ≡ counts₂
 clear-coincides = zeros-same
 
--- `search::copy`
-pub copy-coincides : (counts out₁ out₂ : List ℕ) → out₁ ≡ counts → out₂ ≡ counts → out₁ ≡ out₂
-copy-coincides counts out₁ out₂ a b = a ∙ sym b
+-- `parents::tally`
+pub tally-coincides : {numbers counts counts₁ counts₂ : List ℕ} → Tallied numbers counts counts₁ → Tallied numbers counts counts₂ → counts₁ ≡ counts₂
+tally-coincides = tallied-same
 
--- `search::count_parents`
+-- `parents::count_parents`
 pub parents-coincide : {n : ℕ} {targets parents₁ parents₂ : List ℕ} → Parents n targets parents₁ → Parents n targets parents₂ → parents₁ ≡ parents₂
 parents-coincide = parents-same
 
--- `search::search`, whatever stood in the order: the exit and the parents' counts. Of the order the vertices that it shows,
-pub search-coincides : (starts targets left order order′ left₁ order₁ left₂ order₂ : List ℕ) (s : ℕ) (exit₁ exit₂ : Exit) → Sought starts targets left order left₁ order₁ s exit₁
-    → Sought starts targets left order′ left₂ order₂ s exit₂ → (exit₁ ≡ exit₂) × (left₁ ≡ left₂)
-search-coincides starts targets left order order′ left₁ order₁ left₂ order₂ s exit₁ exit₂ a b =
+-- `walking::walk`: all but the order
+pub walk-coincides : {row parents pending order pending₁ order₁ pending₂ order₂ : List ℕ} {tail k tail₁ waiting₁ tail₂ waiting₂ : ℕ}
+    → Walked row parents pending order tail k pending₁ order₁ tail₁ waiting₁ → Walked row parents pending order tail k pending₂ order₂ tail₂ waiting₂
+    → (pending₁ ≡ pending₂) × (tail₁ ≡ tail₂) × (waiting₁ ≡ waiting₂)
+walk-coincides = walk-determined
+
+-- `search::search`, whatever stood in the order: the exit and the pending parents. Of the order the vertices that it shows,
+pub search-coincides : (starts targets pending order order′ pending₁ order₁ pending₂ order₂ : List ℕ) (s : ℕ) (exit₁ exit₂ : Exit)
+    → Sought starts targets pending order pending₁ order₁ s exit₁ → Sought starts targets pending order′ pending₂ order₂ s exit₂ → (exit₁ ≡ exit₂) × (pending₁ ≡ pending₂)
+search-coincides starts targets pending order order′ pending₁ order₁ pending₂ order₂ s exit₁ exit₂ a b =
     (answer-unique starts targets order₁ order₂ s exit₁ exit₂ (a .searched) (b .searched), a .whole ∙ sym (b .whole))
 
 -- which one order has where the other has them
@@ -108,38 +122,41 @@ pub order-shows-same : {starts targets order₁ order₂ : List ℕ} {s t k₁ k
 order-shows-same = shown
 
 -- `cycle::has_cycle`: the answer
-pub has-cycle-coincides : (starts targets : List ℕ) (r₁ r₂ : Bool) → Says r₁ (Cyclic (Edge starts targets)) → Says r₂ (Cyclic (Edge starts targets)) → r₁ ≡ r₂
-has-cycle-coincides starts targets = says-unique (Cyclic (Edge starts targets))
+pub has-cycle-coincides : (rows : Rows) (r₁ r₂ : Bool) → Says r₁ (Cyclic (edges rows)) → Says r₂ (Cyclic (edges rows)) → r₁ ≡ r₂
+has-cycle-coincides rows = says-unique (Cyclic (edges rows))
 
 -- `listing::list`
-pub list-coincides : (starts targets out out₁ out₂ : List ℕ) (number₁ found₁ number₂ found₂ : ℕ) → ListDone starts targets out out₁ number₁ found₁
-    → ListDone starts targets out out₂ number₂ found₂ → (number₁ ≡ number₂) × (found₁ ≡ found₂) × (out₁ ≡ out₂)
+pub list-coincides : {rows : Rows} {out out₁ out₂ : List ℕ} {answer₁ answer₂ : Found} → ListDone rows out out₁ answer₁ → ListDone rows out out₂ answer₂
+    → (answer₁ ≡ answer₂) × (out₁ ≡ out₂)
 list-coincides = list-determined
 
--- `listing::judge`
-pub judge-coincides : (starts targets : List ℕ) (s t number₁ number₂ : ℕ) (answer₁ answer₂ : Bool) (size₁ size₂ : ℕ) → JudgeDone starts targets s t number₁ answer₁ size₁
-    → JudgeDone starts targets s t number₂ answer₂ size₂ → (number₁ ≡ number₂) × (answer₁ ≡ answer₂) × (size₁ ≡ size₂)
+-- `judging::judge`
+pub judge-coincides : {rows : Rows} {s t : ℕ} {answer₁ answer₂ : Judgement} → JudgeDone rows s t answer₁ → JudgeDone rows s t answer₂ → answer₁ ≡ answer₂
 judge-coincides = judge-determined
 
 -- `candidates::find`: all but the order
-pub find-coincides : {starts targets parents₁ left₁ order₁ exits₁ parents₂ left₂ order₂ exits₂ : List ℕ} {found₁ found₂ : ℕ} → Found starts targets parents₁ left₁ order₁ exits₁ found₁
-    → Found starts targets parents₂ left₂ order₂ exits₂ found₂ → (parents₁ ≡ parents₂) × (left₁ ≡ left₂) × (exits₁ ≡ exits₂) × (found₁ ≡ found₂)
-find-coincides = found-determined
+pub find-coincides : {rows : Rows} {parents₁ pending₁ order₁ exits₁ parents₂ pending₂ order₂ exits₂ : List ℕ} {found₁ found₂ : ℕ}
+    → FindDone Candidate rows parents₁ pending₁ order₁ exits₁ found₁ → FindDone Candidate rows parents₂ pending₂ order₂ exits₂ found₂
+    → (parents₁ ≡ parents₂) × (pending₁ ≡ pending₂) × (exits₁ ≡ exits₂) × (found₁ ≡ found₂)
+find-coincides = found-determined (the-fold-lawful .candidates-lawful)
 
 -- `kept::keep`, whatever stood in the best sums: all but these
-pub keep-coincides : {starts targets counts best best′ next out best₁ next₁ out₁ best₂ next₂ out₂ : List ℕ} {s t : ℕ} → KeptDone starts targets counts s t best next out best₁ next₁ out₁
-    → KeptDone starts targets counts s t best′ next out best₂ next₂ out₂ → (next₁ ≡ next₂) × (out₁ ≡ out₂)
-keep-coincides = kept-coincide
+pub keep-coincides : {table : Table} {best best′ next out best₁ next₁ out₁ best₂ next₂ out₂ : List ℕ} {s t : ℕ}
+    → KeptDone Candidate first-takes-all table s t best next out best₁ next₁ out₁ → KeptDone Candidate first-takes-all table s t best′ next out best₂ next₂ out₂
+    → (next₁ ≡ next₂) × (out₁ ≡ out₂)
+keep-coincides = kept-coincide (the-fold-lawful .candidates-lawful) (the-fold-lawful .rule-lawful)
+
+-- `turns::turn`: all but the number of a dropped vertex, of which it is stated that it says so
+pub turn-coincides : {table : Table} {budget : ℕ} {next₁ out₁ next₂ out₂ : List ℕ} {answer₁ answer₂ : Turned} → TurnDone the-fold table budget next₁ out₁ answer₁
+    → TurnDone the-fold table budget next₂ out₂ answer₂ → (answer₁ ≡ answer₂) × (out₁ ≡ out₂)
+turn-coincides = turn-determined the-fold-lawful
 
 -- `staying::write_table`
-pub write-table-coincides : {starts targets next out-starts out-targets out-starts₁ out-targets₁ out-starts₂ out-targets₂ : List ℕ} {r₁ r₂ : ℕ}
-    → TableWritten starts targets next out-starts out-targets out-starts₁ out-targets₁ r₁ → TableWritten starts targets next out-starts out-targets out-starts₂ out-targets₂ r₂
-    → (out-starts₁ ≡ out-starts₂) × (out-targets₁ ≡ out-targets₂) × (r₁ ≡ r₂)
+pub write-table-coincides : {rows lent after₁ after₂ : Rows} {next : List ℕ} {r₁ r₂ : ℕ} → TableWritten rows next lent after₁ r₁ → TableWritten rows next lent after₂ r₂
+    → (after₁ ≡ after₂) × (r₁ ≡ r₂)
 write-table-coincides = write-table-determined
 
 -- `folding::fold`
-pub fold-coincides : (starts targets counts : List ℕ) (budget : ℕ) (out-starts out-targets out-counts a₁ b₁ c₁ a₂ b₂ c₂ : List ℕ) (number₁ folded₁ left₁ edges₁ number₂ folded₂ left₂ edges₂ : ℕ)
-    → FoldDone starts targets counts budget out-starts out-targets out-counts a₁ b₁ c₁ number₁ folded₁ left₁ edges₁
-    → FoldDone starts targets counts budget out-starts out-targets out-counts a₂ b₂ c₂ number₂ folded₂ left₂ edges₂
-    → (number₁ ≡ number₂) × (folded₁ ≡ folded₂) × (left₁ ≡ left₂) × (edges₁ ≡ edges₂) × (a₁ ≡ a₂) × (b₁ ≡ b₂) × (c₁ ≡ c₂)
-fold-coincides = fold-determined
+pub fold-coincides : {table lent after₁ after₂ : Table} {budget : ℕ} {answer₁ answer₂ : Folded} → FoldDone the-fold table budget lent after₁ answer₁
+    → FoldDone the-fold table budget lent after₂ answer₂ → (answer₁ ≡ answer₂) × (after₁ ≡ after₂)
+fold-coincides = fold-determined the-fold-lawful

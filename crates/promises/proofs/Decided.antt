@@ -6,20 +6,20 @@ use mathlib.Core.List.{List, [], _∷_, _++_}
 use native.Mathlib.Omega.{arith}
 use native.Mathlib.Decide.{ℕ-discrete, decLe, decLt, map-dec}
 use lib.ListN.{length, getD, take, drop}
-use Rattle.table.specs.Verdict.{Demand, Verdict}
-use Rattle.table.specs.Table.{vertices, row, Edge, Rises, Below, StartsFit, RowsRise, WellFormed, countSum}
-use Rattle.table.specs.Numbers.{tableDemands, countDemands}
+use Rattle.table.specs.Verdict.{Demand, Verdict, AllMet}
+use Rattle.table.specs.Limits.{vertex-limit, start-limit, edge-limit, read-limit}
+use Rattle.table.specs.Table.{vertices, row, Edge, Rises, Below, StartsFit, RowsRise, countSum, Rows, Table, size, edges, Sound}
+use Rattle.table.specs.Numbers.{tableDemands, countDemands, roomFor}
 use Rattle.table.proofs.RowLaws.{edges-below}
-use Rattle.table.proofs.VerdictLaws.{AllMet}
-use Rattle.image.specs.Image.{mark, imageLength, versionOf, verticesOf, edgesOf, startsOf, targetsOf, countsOf}
+use Rattle.layout.specs.Image.{mark, imageLength, versionOf, verticesOf, edgesOf, tableOf}
 use Rattle.image.specs.Contracts.{headerDemands, bodyDemands}
 use Rattle.bubble.proofs.Reflect.{decided, decides-test}
 use Rattle.bubble.proofs.Closure.{decides-closure}
 use Rattle.bubble.proofs.Walks.{walk-first}
 use Rattle.rule.proofs.CandidatesListed.{some-decided}
-use Rattle.cycle.specs.Cycle.{Anywhere, Cyclic}
+use Rattle.bubble.specs.Cycle.{Anywhere, Cyclic}
 use Rattle.bubble.specs.Superbubble.{Walk}
-use Rattle.search.proofs.OccurrenceLaws.{in-decided}
+use Rattle.parents.proofs.OccurrenceLaws.{in-decided}
 
 -- each demand is decided where those before it are met
 abbrev pub DecidedInTurn : List Demand → Type 0
@@ -81,31 +81,38 @@ same-decided (x ∷ xs) [] = no (λ q. omega (arith, ap length q))
 same-decided (x ∷ xs) (y ∷ ys) =
     map-dec (λ h. ap₂ {C = List ℕ} (λ a b. a ∷ b) (h .0) (h .1)) (λ q. (ap (λ (l : List ℕ). getD l 0 0) q, ap (drop 1) q)) (both (ℕ-discrete x y) (same-decided xs ys))
 
-pub edge-decided : (starts targets : List ℕ) (u v : ℕ) → Dec (Edge starts targets u v)
-edge-decided starts targets u v =
-    map-dec (λ h. record { vertex = h .0; listed = h .1 }) (λ e. (e .vertex, e .listed)) (both (decLt u (vertices starts)) (in-decided v (row starts targets u)))
+pub edge-decided : (rows : Rows) (u v : ℕ) → Dec (edges rows u v)
+edge-decided rows u v =
+    map-dec (λ h. record { vertex = h .0; listed = h .1 }) (λ e. (e .vertex, e .listed))
+    (both (decLt u (size rows)) (in-decided v (row (rows .starts) (rows .targets) u)))
 
 -- whether a well-formed table has a directed cycle
-cycle-decided : (starts targets : List ℕ) → WellFormed starts targets → Dec (Cyclic (Edge starts targets))
-cycle-decided starts targets ok =
-    let back : (v : ℕ) → Dec (Walk (Edge starts targets) Anywhere v v)
-    = λ v. decided (decides-closure (λ x y. decides-test (edge-decided starts targets x y)) (vertices starts) (λ x y e. edges-below ok x y e .1) v v) in
-    map-dec (λ h. record { vertex = h .0; back = h .1 }) (λ c. (c .vertex, c .back))
-    (some-decided (vertices starts) back (λ v w. walk-first w .1 .vertex))
+cycle-decided : (rows : Rows) → Sound rows → Dec (Cyclic (edges rows))
+cycle-decided rows ok =
+    let back : (v : ℕ) → Dec (Walk (edges rows) Anywhere v v)
+    = λ v. decided (decides-closure (λ x y. decides-test (edge-decided rows x y)) (size rows) (λ x y e. edges-below ok x y e .1) v v) in
+    map-dec (λ h. record { vertex = h .0; back = h .1 }) (λ c. (c .vertex, c .back)) (some-decided (size rows) back (λ v w. walk-first w .1 .vertex))
+
+-- 3, 4 and 5,
+fit-decided : (rows : Rows) → Dec (StartsFit (rows .starts) (length (rows .targets)))
+fit-decided rows = starts-decided (rows .starts) (length (rows .targets))
+
+targets-decided : (rows : Rows) → Dec (Below (size rows) (rows .targets))
+targets-decided rows = below-decided (size rows) (rows .targets)
 
 -- 1 to 5,
-pub table-decided : (starts targets : List ℕ) → DecidedInTurn (tableDemands starts targets)
-table-decided starts targets = (
-  both (decLt 0 (length starts)) (decLe (length starts) 2049),
+pub table-decided : (rows : Rows) → DecidedInTurn (tableDemands rows)
+table-decided rows = (
+  both (decLt 0 (length (rows .starts))) (decLe (length (rows .starts)) start-limit),
   λ _. (
-    decLe (length targets) 8192,
-    λ _. (starts-decided starts (length targets), λ _. (below-decided (vertices starts) targets, λ _. (rows-decided starts targets, λ _. tt))),
+    decLe (length (rows .targets)) edge-limit,
+    λ _. (fit-decided rows, λ _. (targets-decided rows, λ _. (rows-decided (rows .starts) (rows .targets), λ _. tt))),
   ),
 )
 
 -- 6 and 7,
-pub counts-decided : (starts counts : List ℕ) → DecidedInTurn (countDemands starts counts)
-counts-decided starts counts = (ℕ-discrete (length counts) (vertices starts), λ _. (decLe (countSum counts) 1099511627775, λ _. tt))
+pub counts-decided : (table : Table) → DecidedInTurn (countDemands table)
+counts-decided table = (ℕ-discrete (length (table .counts)) (size (table .rows)), λ _. (decLe (countSum (table .counts)) read-limit, λ _. tt))
 
 -- 10, 11, 1, 2, 12,
 pub header-decided : (image : List ℕ) → DecidedInTurn (headerDemands image)
@@ -114,27 +121,24 @@ header-decided image = (
   λ _. (
     ℕ-discrete (versionOf image) 1,
     λ _. (
-      decLe (verticesOf image) 2048,
-      λ _. (decLe (edgesOf image) 8192, λ _. (ℕ-discrete (length image) (imageLength (verticesOf image) (edgesOf image)), λ _. tt)),
+      decLe (verticesOf image) vertex-limit,
+      λ _. (decLe (edgesOf image) edge-limit, λ _. (ℕ-discrete (length image) (imageLength (verticesOf image) (edgesOf image)), λ _. tt)),
     ),
   ),
 )
 
 -- 3, 4, 5, 7 of the table in an image,
 pub body-decided : (image : List ℕ) → DecidedInTurn (bodyDemands image)
-body-decided image = (
-  starts-decided (startsOf image) (length (targetsOf image)),
-  λ _. (
-    below-decided (vertices (startsOf image)) (targetsOf image),
-    λ _. (rows-decided (startsOf image) (targetsOf image), λ _. (decLe (countSum (countsOf image)) 1099511627775, λ _. tt)),
-  ),
-)
+body-decided image =
+    let rows = tableOf image .rows in
+    (fit-decided rows, λ _. (targets-decided rows, λ _. (rows-decided (rows .starts) (rows .targets), λ _. (decLe (countSum (tableOf image .counts)) read-limit, λ _. tt))))
 
 -- 8, of the three slices that a table is written to,
-pub room-decided : (a b c x y z : ℕ) → Dec ((a ≤ x) × (b ≤ y) × (c ≤ z))
-room-decided a b c x y z =
-    map-dec (λ h. (h .0, h .1 .0, h .1 .1)) (λ h. (h .0, (h .1, h .2))) (both (decLe a x) (both (decLe b y) (decLe c z)))
+pub room-decided : (n m : ℕ) (lent : Table) → Dec (roomFor n m lent .met)
+room-decided n m lent =
+    map-dec (λ h. (h .0, h .1 .0, h .1 .1)) (λ h. (h .0, (h .1, h .2)))
+    (both (decLe (n + 1) (length (lent .rows .starts))) (both (decLe m (length (lent .rows .targets))) (decLe n (length (lent .counts)))))
 
 -- and 9
-pub acyclic-decided : (starts targets : List ℕ) → WellFormed starts targets → Dec (Cyclic (Edge starts targets) → ⊥)
-acyclic-decided starts targets ok = not-decided (cycle-decided starts targets ok)
+pub acyclic-decided : (rows : Rows) → Sound rows → Dec (Cyclic (edges rows) → ⊥)
+acyclic-decided rows ok = not-decided (cycle-decided rows ok)

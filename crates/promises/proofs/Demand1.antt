@@ -2,145 +2,150 @@
 use Prim.Native.Nat.{ℕ, _+_, _*_}
 use mathlib.Core.Path.{_≡_, refl, sym, _∙_}
 use mathlib.Core.Logic.{inl, inr}
-use mathlib.Core.Bool.{Bool, false}
+use mathlib.Core.Bool.{false}
 use mathlib.Core.List.{List, [], _∷_, _++_}
 use native.Mathlib.Decide.{decLe, decLt}
 use lib.ListN.{length}
 use Rattle.table.specs.Verdict.{Demand, Verdict}
-use Rattle.table.specs.Table.{vertices, Edge, Below, WellFormed, Counted}
-use Rattle.table.specs.Numbers.{tableDemands, countDemands, countedDemands}
-use Rattle.table.proofs.VerdictLaws.{AllMet, first-met, goes-on, stops, verdict-unique}
+use Rattle.table.specs.Table.{Below, Rows, Table, size, edges, Sound, SoundTable}
+use Rattle.table.specs.Numbers.{tableDemands, countDemands, countedDemands, roomFor}
+use Rattle.table.proofs.VerdictLaws.{goes-on, stops, verdict-unique}
 use Rattle.table.proofs.Accepted.{well-formed, counted, met-counted, counted-meets}
-use Rattle.image.specs.Image.{imageLength, verticesOf, edgesOf, startsOf, targetsOf, countsOf}
-use Rattle.image.specs.Contracts.{headerDemands, bodyDemands, readRoom, writeRoom, Read, Written}
-use Rattle.image.proofs.ReadLaws.{read-met}
-use Rattle.image.proofs.ImageBack.{table-counted, image-back}
-use Rattle.listing.specs.Listing.{listRoom, pairInside, ListDone, JudgeDone}
-use Rattle.cycle.specs.Cycle.{Cyclic}
-use Rattle.folding.specs.Folding.{foldRoom, noCycle, FoldDone}
+use Rattle.layout.specs.Image.{imageLength, verticesOf, edgesOf, tableOf}
+use Rattle.image.specs.declared.header.Sizes.{Sizes}
+use Rattle.image.specs.Contracts.{headerDemands, bodyDemands, Read}
+use Rattle.image.proofs.ReadLaws.{table-sound, read-met}
+use Rattle.writing.specs.declared.Extent.{Extent}
+use Rattle.writing.specs.Writing.{imageRoom, Written}
+use Rattle.bubble.specs.Cycle.{Cyclic}
+use Rattle.listing.specs.declared.Found.{Found}
+use Rattle.listing.specs.Listing.{listRoom, ListDone}
+use Rattle.judging.specs.declared.Judgement.{Judgement}
+use Rattle.judging.specs.Judging.{pairInside, JudgeDone}
+use Rattle.rule.specs.Way.{noCycle, the-fold}
+use Rattle.folding.specs.declared.folds.Folded.{Folded}
+use Rattle.folding.specs.Folding.{foldRoom, foldDemands, FoldDone}
 use Rattle.promises.specs.Images.{GoodImage}
 use Rattle.promises.proofs.Decided.{DecidedInTurn, gives-number, decided-then, both, table-decided, counts-decided, header-decided, body-decided, room-decided, acyclic-decided}
+use Rattle.promises.proofs.ImageBack.{image-back}
 
 -- A table of any content gets an answer: the check has a number for it, without counts and with them,
-pub check-answers : (starts targets : List ℕ) → (number : ℕ) × Verdict (tableDemands starts targets) number
-check-answers starts targets = gives-number (tableDemands starts targets) (table-decided starts targets)
+pub check-answers : (rows : Rows) → (number : ℕ) × Verdict (tableDemands rows) number
+check-answers rows = gives-number (tableDemands rows) (table-decided rows)
 
-counted-decided : (starts targets counts : List ℕ) → DecidedInTurn (countedDemands starts targets counts)
-counted-decided starts targets counts = decided-then (tableDemands starts targets) (countDemands starts counts) (table-decided starts targets) (λ _. counts-decided starts counts)
+counted-decided : (table : Table) → DecidedInTurn (countedDemands table)
+counted-decided table = decided-then (tableDemands (table .rows)) (countDemands table) (table-decided (table .rows)) (λ _. counts-decided table)
 
-pub check-counted-answers : (starts targets counts : List ℕ) → (number : ℕ) × Verdict (countedDemands starts targets counts) number
-check-counted-answers starts targets counts = gives-number (countedDemands starts targets counts) (counted-decided starts targets counts)
+pub check-counted-answers : (table : Table) → (number : ℕ) × Verdict (countedDemands table) number
+check-counted-answers table = gives-number (countedDemands table) (counted-decided table)
 
 -- and so have list,
-pub list-answers : (starts targets out : List ℕ) → (number : ℕ) × Verdict (tableDemands starts targets ++ listRoom starts out ∷ []) number
-list-answers starts targets out =
-    gives-number (tableDemands starts targets ++ listRoom starts out ∷ [])
-    (decided-then (tableDemands starts targets) (listRoom starts out ∷ []) (table-decided starts targets) (λ _. (decLe (2 * vertices starts) (length out), λ _. tt)))
+pub list-answers : (rows : Rows) (out : List ℕ) → (number : ℕ) × Verdict (tableDemands rows ++ listRoom rows out ∷ []) number
+list-answers rows out =
+    gives-number (tableDemands rows ++ listRoom rows out ∷ [])
+    (decided-then (tableDemands rows) (listRoom rows out ∷ []) (table-decided rows) (λ _. (decLe (2 * size rows) (length out), λ _. tt)))
 
 -- judge,
-pub judge-answers : (starts targets : List ℕ) (s t : ℕ) → (number : ℕ) × Verdict (tableDemands starts targets ++ pairInside starts s t ∷ []) number
-judge-answers starts targets s t =
-    gives-number (tableDemands starts targets ++ pairInside starts s t ∷ [])
-    (decided-then (tableDemands starts targets) (pairInside starts s t ∷ []) (table-decided starts targets) (λ _. (both (decLt s (vertices starts)) (decLt t (vertices starts)), λ _. tt)))
+pub judge-answers : (rows : Rows) (s t : ℕ) → (number : ℕ) × Verdict (tableDemands rows ++ pairInside rows s t ∷ []) number
+judge-answers rows s t =
+    gives-number (tableDemands rows ++ pairInside rows s t ∷ [])
+    (decided-then (tableDemands rows) (pairInside rows s t ∷ []) (table-decided rows) (λ _. (both (decLt s (size rows)) (decLt t (size rows)), λ _. tt)))
 
 -- fold,
-pub fold-answers : (starts targets counts out-starts out-targets out-counts : List ℕ)
-    → (number : ℕ) × Verdict (countedDemands starts targets counts ++ foldRoom starts targets out-starts out-targets out-counts ∷ noCycle starts targets ∷ []) number
-fold-answers starts targets counts out-starts out-targets out-counts =
-    gives-number (countedDemands starts targets counts ++ foldRoom starts targets out-starts out-targets out-counts ∷ noCycle starts targets ∷ [])
-    (decided-then (countedDemands starts targets counts) (foldRoom starts targets out-starts out-targets out-counts ∷ noCycle starts targets ∷ []) (counted-decided starts targets counts)
+pub fold-answers : (table lent : Table) → (number : ℕ) × Verdict (foldDemands the-fold table lent) number
+fold-answers table lent =
+    gives-number (foldDemands the-fold table lent)
+    (decided-then (countedDemands table) (foldRoom table lent ∷ noCycle (table .rows) ∷ []) (counted-decided table)
     (λ met. (
-      room-decided (vertices starts + 1) (length targets) (vertices starts) (length out-starts) (length out-targets) (length out-counts),
-      λ _. (acyclic-decided starts targets (met-counted starts targets counts met .well-formed), λ _. tt),
+      room-decided (size (table .rows)) (length (table .rows .targets)) lent,
+      λ _. (acyclic-decided (table .rows) (met-counted table met .well-formed), λ _. tt),
     )))
 
 -- and the writing of an image.
-pub write-answers : (starts targets counts image : List ℕ) → (number : ℕ) × Verdict (countedDemands starts targets counts ++ writeRoom starts targets image ∷ []) number
-write-answers starts targets counts image =
-    gives-number (countedDemands starts targets counts ++ writeRoom starts targets image ∷ [])
-    (decided-then (countedDemands starts targets counts) (writeRoom starts targets image ∷ []) (counted-decided starts targets counts)
-    (λ _. (decLe (imageLength (vertices starts) (length targets)) (length image), λ _. tt)))
+pub write-answers : (table : Table) (image : List ℕ) → (number : ℕ) × Verdict (countedDemands table ++ imageRoom (table .rows) image ∷ []) number
+write-answers table image =
+    gives-number (countedDemands table ++ imageRoom (table .rows) image ∷ [])
+    (decided-then (countedDemands table) (imageRoom (table .rows) image ∷ []) (counted-decided table)
+    (λ _. (decLe (imageLength (size (table .rows)) (length (table .rows .targets))) (length image), λ _. tt)))
 
 -- An image of any content gets an answer.
-pub read-answers : (image starts targets counts : List ℕ) → (number : ℕ) × Verdict (headerDemands image ++ bodyDemands image ++ readRoom image starts targets counts ∷ []) number
-read-answers image starts targets counts =
-    gives-number (headerDemands image ++ bodyDemands image ++ readRoom image starts targets counts ∷ [])
-    (decided-then (headerDemands image) (bodyDemands image ++ readRoom image starts targets counts ∷ []) (header-decided image)
-    (λ _. decided-then (bodyDemands image) (readRoom image starts targets counts ∷ []) (body-decided image)
-    (λ _. (room-decided (verticesOf image + 1) (edgesOf image) (verticesOf image) (length starts) (length targets) (length counts), λ _. tt))))
+pub read-answers : (image : List ℕ) (lent : Table)
+    → (number : ℕ) × Verdict (headerDemands image ++ bodyDemands image ++ roomFor (verticesOf image) (edgesOf image) lent ∷ []) number
+read-answers image lent =
+    let room = roomFor (verticesOf image) (edgesOf image) lent in
+    gives-number (headerDemands image ++ bodyDemands image ++ room ∷ [])
+    (decided-then (headerDemands image) (bodyDemands image ++ room ∷ []) (header-decided image)
+    (λ _. decided-then (bodyDemands image) (room ∷ []) (body-decided image) (λ _. (room-decided (verticesOf image) (edgesOf image) lent, λ _. tt))))
 
 -- Bad ones are refused by number: a table that is not well-formed, without its counts and with them, by the checks
-pub bad-table-refused : (starts targets : List ℕ) (number : ℕ) → (WellFormed starts targets → ⊥) → Verdict (tableDemands starts targets) number → number ≡ 0 → ⊥
-bad-table-refused starts targets number bad v e = bad (well-formed starts targets (rw e at v))
+pub bad-table-refused : (rows : Rows) (number : ℕ) → (Sound rows → ⊥) → Verdict (tableDemands rows) number → number ≡ 0 → ⊥
+bad-table-refused rows number bad v e = bad (well-formed rows (rw e at v))
 
-pub bad-counts-refused : (starts targets counts : List ℕ) (number : ℕ) → (Counted starts targets counts → ⊥) → Verdict (countedDemands starts targets counts) number → number ≡ 0 → ⊥
-bad-counts-refused starts targets counts number bad v e = bad (counted starts targets counts (rw e at v))
+pub bad-counts-refused : (table : Table) (number : ℕ) → (SoundTable table → ⊥) → Verdict (countedDemands table) number → number ≡ 0 → ⊥
+bad-counts-refused table number bad v e = bad (counted table (rw e at v))
 
 -- a demand that is not met is not passed: where the first demands refuse, so do all
-still-refused : (first rest : List Demand) (number : ℕ) → ((r : ℕ) → Verdict first r → r ≡ 0 → ⊥) → ((r : ℕ) × Verdict first r) → Verdict (first ++ rest) number → number ≡ 0 → ⊥
+still-refused : (first rest : List Demand) (number : ℕ) → ((r : ℕ) → Verdict first r → r ≡ 0 → ⊥) → ((r : ℕ) × Verdict first r)
+    → Verdict (first ++ rest) number → number ≡ 0 → ⊥
 still-refused first rest number bad (r, v) w e = bad r v (sym (verdict-unique (first ++ rest) number r w (stops first rest r (bad r v) v)) ∙ e)
 
 -- and by list,
-pub list-refuses-bad : (starts targets out out′ : List ℕ) (number found : ℕ) → (WellFormed starts targets → ⊥) → ListDone starts targets out out′ number found → number ≡ 0 → ⊥
-list-refuses-bad starts targets out out′ number found bad done =
-    still-refused (tableDemands starts targets) (listRoom starts out ∷ []) number (λ r. bad-table-refused starts targets r bad) (check-answers starts targets) (done .verdict)
+pub list-refuses-bad : {rows : Rows} {out out′ : List ℕ} {answer : Found} → (Sound rows → ⊥) → ListDone rows out out′ answer → answer .number ≡ 0 → ⊥
+list-refuses-bad {rows} {out} {out′} {answer} bad done =
+    still-refused (tableDemands rows) (listRoom rows out ∷ []) (answer .number) (λ r. bad-table-refused rows r bad) (check-answers rows) (done .verdict)
 
 -- judge,
-pub judge-refuses-bad : (starts targets : List ℕ) (s t number size : ℕ) (answer : Bool) → (WellFormed starts targets → ⊥) → JudgeDone starts targets s t number answer size → number ≡ 0 → ⊥
-judge-refuses-bad starts targets s t number size answer bad done =
-    still-refused (tableDemands starts targets) (pairInside starts s t ∷ []) number (λ r. bad-table-refused starts targets r bad) (check-answers starts targets) (done .verdict)
+pub judge-refuses-bad : {rows : Rows} {s t : ℕ} {answer : Judgement} → (Sound rows → ⊥) → JudgeDone rows s t answer → answer .number ≡ 0 → ⊥
+judge-refuses-bad {rows} {s} {t} {answer} bad done =
+    still-refused (tableDemands rows) (pairInside rows s t ∷ []) (answer .number) (λ r. bad-table-refused rows r bad) (check-answers rows) (done .verdict)
 
 -- fold,
-pub fold-refuses-bad : (starts targets counts : List ℕ) (budget : ℕ) (out-starts out-targets out-counts a b c : List ℕ) (number folded left edges : ℕ) → (Counted starts targets counts → ⊥)
-    → FoldDone starts targets counts budget out-starts out-targets out-counts a b c number folded left edges → number ≡ 0 → ⊥
-fold-refuses-bad starts targets counts budget out-starts out-targets out-counts a b c number folded left edges bad done =
-    still-refused (countedDemands starts targets counts) (foldRoom starts targets out-starts out-targets out-counts ∷ noCycle starts targets ∷ []) number
-    (λ r. bad-counts-refused starts targets counts r bad) (check-counted-answers starts targets counts) (done .verdict)
+pub fold-refuses-bad : {table lent after : Table} {budget : ℕ} {answer : Folded} → (SoundTable table → ⊥) → FoldDone the-fold table budget lent after answer
+    → answer .number ≡ 0 → ⊥
+fold-refuses-bad {table} {lent} {answer = answer} bad done =
+    still-refused (countedDemands table) (foldRoom table lent ∷ noCycle (table .rows) ∷ []) (answer .number)
+    (λ r. bad-counts-refused table r bad) (check-counted-answers table) (done .verdict)
 
 -- which refuses a table with a directed cycle, too: by 9, where there is room,
-pub fold-refuses-cycle : (starts targets counts : List ℕ) (budget : ℕ) (out-starts out-targets out-counts a b c : List ℕ) (number folded left edges : ℕ) → Counted starts targets counts
-    → (foldRoom starts targets out-starts out-targets out-counts) .met → Cyclic (Edge starts targets)
-    → FoldDone starts targets counts budget out-starts out-targets out-counts a b c number folded left edges → number ≡ 9
-fold-refuses-cycle starts targets counts budget out-starts out-targets out-counts a b c number folded left edges ok room cycle done =
-    verdict-unique (countedDemands starts targets counts ++ foldRoom starts targets out-starts out-targets out-counts ∷ noCycle starts targets ∷ []) number 9 (done .verdict)
-    (goes-on (countedDemands starts targets counts) (foldRoom starts targets out-starts out-targets out-counts ∷ noCycle starts targets ∷ []) 9 (counted-meets starts targets counts ok)
+pub fold-refuses-cycle : {table lent after : Table} {budget : ℕ} {answer : Folded} → SoundTable table
+    → foldRoom table lent .met → Cyclic (edges (table .rows))
+    → FoldDone the-fold table budget lent after answer → answer .number ≡ 9
+fold-refuses-cycle {table} {lent} {answer = answer} ok room cycle done =
+    verdict-unique (foldDemands the-fold table lent) (answer .number) 9 (done .verdict)
+    (goes-on (countedDemands table) (foldRoom table lent ∷ noCycle (table .rows) ∷ []) 9 (counted-meets table ok)
     (inr (room, inl ((λ none. none cycle), refl))))
 
 -- and the writing of an image;
-pub write-refuses-bad : (starts targets counts image image′ : List ℕ) (number size : ℕ) → (Counted starts targets counts → ⊥) → Written starts targets counts image image′ number size
-    → number ≡ 0 → ⊥
-write-refuses-bad starts targets counts image image′ number size bad done =
-    still-refused (countedDemands starts targets counts) (writeRoom starts targets image ∷ []) number (λ r. bad-counts-refused starts targets counts r bad) (check-counted-answers starts targets counts)
+pub write-refuses-bad : {table : Table} {image image′ : List ℕ} {answer : Extent} → (SoundTable table → ⊥) → Written table image image′ answer → answer .number ≡ 0 → ⊥
+write-refuses-bad {table} {image} {image′} {answer} bad done =
+    still-refused (countedDemands table) (imageRoom (table .rows) image ∷ []) (answer .number) (λ r. bad-counts-refused table r bad) (check-counted-answers table)
     (done .verdict)
 
 -- and bytes that are the image of no well-formed table
-pub bad-image-refused : (image starts targets counts starts′ targets′ counts′ : List ℕ) (number n m : ℕ) → Below 256 image → (GoodImage image → ⊥)
-    → Read image starts targets counts starts′ targets′ counts′ number n m → number ≡ 0 → ⊥
-bad-image-refused image starts targets counts starts′ targets′ counts′ number n m bytes bad read e =
-    let met : AllMet (headerDemands image ++ bodyDemands image)
-    = first-met (headerDemands image ++ bodyDemands image) (readRoom image starts targets counts ∷ []) (read-met image starts targets counts number n m starts′ targets′ counts′ read e) in
-    bad (record { starts = startsOf image; targets = targetsOf image; counts = countsOf image; table = table-counted image met; bytes = sym (image-back image met bytes) })
+pub bad-image-refused : {image : List ℕ} {lent after : Table} {answer : Sizes} → Below 256 image → (GoodImage image → ⊥) → Read image lent after answer → answer .number ≡ 0 → ⊥
+bad-image-refused {image} bytes bad read e =
+    let met = read-met read e in
+    bad (record { table = tableOf image; sound = table-sound image met; bytes = sym (image-back image met bytes) })
 
 -- A refusal changes no buffer she has lent, and returns 0 in every other field: list,
-pub list-refusal : {starts targets out out′ : List ℕ} {number found : ℕ} → ListDone starts targets out out′ number found → (number ≡ 0 → ⊥) → (out′ ≡ out) × (found ≡ 0)
+pub list-refusal : {rows : Rows} {out out′ : List ℕ} {answer : Found} → ListDone rows out out′ answer → (answer .number ≡ 0 → ⊥) → (out′ ≡ out) × (answer .found ≡ 0)
 list-refusal done refusal = let (found, same) = done .refused refusal in (same, found)
 
 -- judge, which is lent nothing that it could change,
-pub judge-refusal : {starts targets : List ℕ} {s t number size : ℕ} {answer : Bool} → JudgeDone starts targets s t number answer size → (number ≡ 0 → ⊥) → (answer ≡ false) × (size ≡ 0)
+pub judge-refusal : {rows : Rows} {s t : ℕ} {answer : Judgement} → JudgeDone rows s t answer → (answer .number ≡ 0 → ⊥) → (answer .yes ≡ false) × (answer .size ≡ 0)
 judge-refusal done = done .refused
 
 -- fold,
-pub fold-refusal : {starts targets counts out-starts out-targets out-counts out-starts′ out-targets′ out-counts′ : List ℕ} {budget number folded left edges : ℕ}
-    → FoldDone starts targets counts budget out-starts out-targets out-counts out-starts′ out-targets′ out-counts′ number folded left edges → (number ≡ 0 → ⊥)
-    → ((out-starts′ ≡ out-starts) × (out-targets′ ≡ out-targets) × (out-counts′ ≡ out-counts)) × ((folded ≡ 0) × (left ≡ 0) × (edges ≡ 0))
-fold-refusal done refusal = let (folded, left, edges, s, t, c) = done .refused refusal in ((s, t, c), (folded, left, edges))
+pub fold-refusal : {table lent after : Table} {budget : ℕ} {answer : Folded} → FoldDone the-fold table budget lent after answer → (answer .number ≡ 0 → ⊥)
+    → (after ≡ lent) × ((answer .folded ≡ 0) × (answer .left ≡ 0) × (answer .edges ≡ 0))
+fold-refusal done refusal = let (folded, left, edges, same) = done .refused refusal in (same, (folded, left, edges))
 
 -- reading,
-pub read-refusal : {image starts targets counts starts′ targets′ counts′ : List ℕ} {number n m : ℕ} → Read image starts targets counts starts′ targets′ counts′ number n m
-    → (number ≡ 0 → ⊥) → ((starts′ ≡ starts) × (targets′ ≡ targets) × (counts′ ≡ counts)) × ((n ≡ 0) × (m ≡ 0))
-read-refusal done refusal = let (n, m, s, t, c) = done .refused refusal in ((s, t, c), (n, m))
+pub read-refusal : {image : List ℕ} {lent after : Table} {answer : Sizes} → Read image lent after answer → (answer .number ≡ 0 → ⊥)
+    → (after ≡ lent) × ((answer .vertices ≡ 0) × (answer .edges ≡ 0))
+read-refusal done refusal = let (n, m, same) = done .refused refusal in (same, (n, m))
 
 -- and writing.
-pub write-refusal : {starts targets counts image image′ : List ℕ} {number size : ℕ} → Written starts targets counts image image′ number size → (number ≡ 0 → ⊥)
-    → (image′ ≡ image) × (size ≡ 0)
+pub write-refusal : {table : Table} {image image′ : List ℕ} {answer : Extent} → Written table image image′ answer → (answer .number ≡ 0 → ⊥)
+    → (image′ ≡ image) × (answer .length ≡ 0)
 write-refusal done refusal = let (size, same) = done .refused refusal in (same, size)

@@ -1,6 +1,10 @@
 // What the programs print of an image: the table that stands in it, or the number that refuses it.
 ghost use Prim.Native.Nat.{_≤_};
 ghost use Rattle.table.specs.Table.{Counted};
+ghost use Rattle.text.specs.Buffer.{Place};
+use table::EDGE_LIMIT;
+use table::START_LIMIT;
+use table::VERTEX_LIMIT;
 
 // An answer in the buffer: the place behind it, and the number where it is a refusal, else 0.
 pub struct Answer {
@@ -10,16 +14,16 @@ pub struct Answer {
 
 // An answer that is no refusal.
 pub fn accepted(place: usize) -> Answer
-    requires { ⌜ place ≤ 4097 ⌝ }
-    ensures { λ r. ⌜ r .place ≤ 4097 ⌝ }
+    requires { ⌜ Place place ⌝ }
+    ensures { λ r. ⌜ Place (r .place) ⌝ }
 {
     Answer { place, number: 0 }
 }
 
 // Puts the line of a refusal: `refused N`.
-pub fn refusal(out: &mut [u8; 4096], at: usize, number: u32) -> Answer
-    requires { ⌜ at ≤ 4097 ⌝ }
-    ensures { λ r. ⌜ r .place ≤ 4097 ⌝ }
+pub fn refusal(out: &mut [u8; text::BUFFER], at: usize, number: u32) -> Answer
+    requires { ⌜ Place at ⌝ }
+    ensures { λ r. ⌜ Place (r .place) ⌝ }
 {
     let mut place = text::word(out, at, b"refused");
     place = text::next_number(out, place, number as u64);
@@ -55,8 +59,8 @@ fn say(line: &[u8]) {
 }
 
 // Writes an answer out. Beside a refusal its reason is said; where the answer could not be written, that is said instead.
-pub fn print(out: &[u8; 4096], answer: Answer)
-    requires { ⌜ answer .place ≤ 4097 ⌝ }
+pub fn print(out: &[u8; text::BUFFER], answer: Answer)
+    requires { ⌜ Place (answer .place) ⌝ }
 {
     if !text::flush(out, answer.place) {
         say(
@@ -70,9 +74,9 @@ pub fn print(out: &[u8; 4096], answer: Answer)
 }
 
 // Puts the successors of a vertex, a blank before each.
-fn successors(out: &mut [u8; 4096], at: usize, row: &[u32]) -> usize
-    requires { ⌜ at ≤ 4097 ⌝ }
-    ensures { λ r. ⌜ r ≤ 4097 ⌝ }
+fn successors(out: &mut [u8; text::BUFFER], at: usize, row: &[u32]) -> usize
+    requires { ⌜ Place at ⌝ }
+    ensures { λ r. ⌜ Place r ⌝ }
 {
     let mut place = at;
     let mut k = 0;
@@ -84,9 +88,9 @@ fn successors(out: &mut [u8; 4096], at: usize, row: &[u32]) -> usize
 }
 
 // Puts the line of a vertex: its number, its count, its successors.
-fn vertex(out: &mut [u8; 4096], at: usize, v: usize, count: u64, row: &[u32]) -> usize
-    requires { ⌜ at ≤ 4097 ⌝ }
-    ensures { λ r. ⌜ r ≤ 4097 ⌝ }
+fn vertex(out: &mut [u8; text::BUFFER], at: usize, v: usize, count: u64, row: &[u32]) -> usize
+    requires { ⌜ Place at ⌝ }
+    ensures { λ r. ⌜ Place r ⌝ }
 {
     let mut place = text::number(out, at, v as u64);
     place = text::next_number(out, place, count);
@@ -95,9 +99,15 @@ fn vertex(out: &mut [u8; 4096], at: usize, v: usize, count: u64, row: &[u32]) ->
 }
 
 // Puts the line of each vertex.
-fn rows(out: &mut [u8; 4096], at: usize, starts: &[u32], targets: &[u32], counts: &[u64]) -> usize
-    requires { ⌜ (Counted (now starts) (now targets) (now counts)) × (at ≤ 4097) ⌝ }
-    ensures { λ r. ⌜ r ≤ 4097 ⌝ }
+fn rows(
+    out: &mut [u8; text::BUFFER],
+    at: usize,
+    starts: &[u32],
+    targets: &[u32],
+    counts: &[u64],
+) -> usize
+    requires { ⌜ (Counted (now starts) (now targets) (now counts)) × (Place at) ⌝ }
+    ensures { λ r. ⌜ Place r ⌝ }
 {
     let mut place = at;
     let mut v = 0;
@@ -110,14 +120,14 @@ fn rows(out: &mut [u8; 4096], at: usize, starts: &[u32], targets: &[u32], counts
 
 // Puts the lines of a table: `table N M`, and the line of each vertex.
 fn table_lines(
-    out: &mut [u8; 4096],
+    out: &mut [u8; text::BUFFER],
     at: usize,
     starts: &[u32],
     targets: &[u32],
     counts: &[u64],
 ) -> usize
-    requires { ⌜ (Counted (now starts) (now targets) (now counts)) × (at ≤ 4097) ⌝ }
-    ensures { λ r. ⌜ r ≤ 4097 ⌝ }
+    requires { ⌜ (Counted (now starts) (now targets) (now counts)) × (Place at) ⌝ }
+    ensures { λ r. ⌜ Place r ⌝ }
 {
     let mut place = text::word(out, at, b"table");
     place = text::next_number(out, place, counts.len() as u64);
@@ -128,15 +138,15 @@ fn table_lines(
 
 // Puts the lines of the table that stands in an image, or `refused N`. The image is read into the slices lent.
 pub fn show_with(
-    out: &mut [u8; 4096],
+    out: &mut [u8; text::BUFFER],
     at: usize,
     image: &[u8],
     starts: &mut [u32],
     targets: &mut [u32],
     counts: &mut [u64],
 ) -> Answer
-    requires { ⌜ at ≤ 4097 ⌝ }
-    ensures { λ r. ⌜ r .place ≤ 4097 ⌝ }
+    requires { ⌜ Place at ⌝ }
+    ensures { λ r. ⌜ Place (r .place) ⌝ }
 {
     let sizes = image::read(image, starts, targets, counts);
     if sizes.number != 0 {
@@ -150,9 +160,9 @@ pub fn show_with(
 
 // Prints it, with slices and a buffer of its own.
 pub fn show(image: &[u8]) {
-    let mut starts = [0u32; 2049];
-    let mut targets = [0u32; 8192];
-    let mut counts = [0u64; 2048];
+    let mut starts = [0u32; START_LIMIT];
+    let mut targets = [0u32; EDGE_LIMIT];
+    let mut counts = [0u64; VERTEX_LIMIT];
     let mut out = io::buffer();
     let answer = show_with(&mut out, 0, image, &mut starts, &mut targets, &mut counts);
     print(&out, answer);

@@ -6,7 +6,7 @@ use mathlib.Core.List.{List, [], _∷_, _++_, List·Memᴰ, List·Memᴰ·head, 
 use Rattle.bubble.specs.Superbubble.{F, F.start, Walk, Walk.edge, Bubbloid, Superbubble, Reaches}
 use Rattle.bubble.proofs.Walks.{walk-before}
 use Rattle.bubble.proofs.Facts.{exit-inside}
-use Rattle.bubble.proofs.Pigeonhole.{Distinct, Distinct.empty, Distinct.fresh}
+use Rattle.bubble.specs.Distinct.{Distinct, Distinct.empty, Distinct.fresh}
 use Rattle.rule.specs.Lists.{Graph, Follows}
 use Rattle.rule.specs.Kept.{Via, Via.bare, Via.then, Arm}
 use Rattle.rule.specs.Laws.{OneFolded}

@@ -1,4 +1,5 @@
--- A rule that keeps the best path meets the laws if its score does and its portions come to the whole; document 01's rule is one. A kept bare edge means that every interior count is 0. Assumes nothing.
+-- A rule that keeps the best path meets the laws if its score does and its portions come to the whole; the rule of docs/RULES.md, Fold, is one.
+-- A kept bare edge means that every interior count is 0. Assumes nothing.
 use Prim.Native.Nat.{ℕ, zero, suc, _≤_, _<_}
 use mathlib.Core.Path.{_≡_, sym, _∙_}
 use mathlib.Core.Logic.{inl, ⊎-map}
@@ -62,7 +63,7 @@ to-first-whole : (d k n : ℕ) → total (to-first d k) (suc n) ≡ d
 to-first-whole d k zero = omega arith
 to-first-whole d k (suc n) = omega (arith, to-first-whole d k n)
 
--- document 01's rule meets the laws
+-- the rule of docs/RULES.md, Fold, meets the laws
 pub first-takes-all-laws : RuleLaws first-takes-all
 first-takes-all-laws = best-laws sum-laws to-first whole
   where

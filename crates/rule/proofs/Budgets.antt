@@ -5,15 +5,15 @@ use mathlib.Core.List.{List}
 use native.Mathlib.Nat.{add-zero}
 use lib.ListN.{length, drop}
 use Rattle.rule.specs.Lists.{Graph, CandidateSet, Counts}
-use Rattle.rule.specs.Fold.{Rule, Applied, Folded, InTurn, InTurn.once, InTurn.then, budgets-sum}
+use Rattle.rule.specs.Fold.{Rule, Applied, GraphFolded, InTurn, InTurn.once, InTurn.then, budgets-sum}
 use Rattle.rule.specs.Laws.{RuleLaws, CandidateLaws}
 use Rattle.rule.proofs.Remaining.{remaining-listed}
 use Rattle.rule.proofs.Compose.{budgets-add}
 
 module _ {G : Graph → Type 0} {C : CandidateSet} {R : Rule} (L : CandidateLaws G C) (M : RuleLaws R) where
-  -- what a fold returns is settled by what it does
+  -- what a fold returns is determined by what it does
   pub folded-of : {E E′ : Graph} {c c′ : Counts} {b : ℕ} → G E → (a : Applied C R E c b E′ c′)
-      → Folded C R E c b E′ c′ (length (a .items)) (length (drop b (a .candidates)))
+      → GraphFolded C R E c b E′ c′ (length (a .items)) (length (drop b (a .candidates)))
   folded-of {b = b} g a = record { applied = a; how-many = refl; remaining = (drop b (a .candidates), remaining-listed L M g a, refl) }
 
   -- the kind of graph stays

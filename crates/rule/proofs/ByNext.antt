@@ -1,7 +1,7 @@
 -- The kept path by dynamic programming: where each vertex of U has its best sum and the smallest child that gives it, the path by those children from the entrance is the kept one. Assumes nothing.
 use Prim.Native.Nat.{ℕ, zero, suc, _+_, _≤_, _<_}
 use mathlib.Core.Path.{_≡_, refl, sym, ap, _∙_}
-use mathlib.Core.Logic.{_≢_, _↔_, _⊎_, inl, inr, ⊎-elim, ite, if-pos, if-neg}
+use mathlib.Core.Logic.{_≢_, _↔_, _⊎_, inl, inr, ⊎-elim, if-pos, if-neg}
 use mathlib.Core.List.{List, [], _∷_, _++_, List·Memᴰ, List·Memᴰ·head, List·Memᴰ·tail, List·Memᴰ·not-nil, List·Memᴰ·cases-cons}
 use native.Mathlib.Nat.{lt-irrefl}
 use native.Mathlib.Omega.{arith}
@@ -12,11 +12,8 @@ use Rattle.bubble.specs.Superbubble.{F, F.start, F.on, Bubbloid, Interior}
 use Rattle.bubble.proofs.Facts.{no-edge-to-entrance}
 use Rattle.rule.specs.Lists.{Graph, Counts, sum}
 use Rattle.rule.specs.Kept.{Via, Via.bare, Via.then, Earlier, Earlier.here, Earlier.later, Kept}
+use Rattle.rule.specs.Next.{worth, Settled}
 use Rattle.rule.proofs.Pick.{Picked}
-
--- what a path gains that goes on to u: nothing at the exit, and else the count of u and the best sum from u
-unfoldable pub worth : Counts → ℕ → (ℕ → ℕ) → ℕ → ℕ
-worth c t best u = ite (ℕ-discrete u t) 0 (c u + best u)
 
 pub worth-exit : (c : Counts) (best : ℕ → ℕ) {t u : ℕ} → u ≡ t → worth c t best u ≡ 0
 unfolding worth
@@ -34,14 +31,7 @@ worth-same c {t} {u} best best′ h =
       | no n ↦ worth-other c best n ∙ ap (λ (x : ℕ). c u + x) (h n) ∙ sym (worth-other c best′ n)
     ]
 
--- best v is the most that a child of v is worth, and next v the smallest child that is worth it
-pub record Settled (E : Graph) (c : Counts) (t : ℕ) (best next : ℕ → ℕ) (v : ℕ) : Type 0 where
-  pub child : E v (next v)
-  pub reached : worth c t best (next v) ≡ best v
-  pub largest : (u : ℕ) → E v u → worth c t best u ≤ best v
-  pub smallest : (u : ℕ) → E v u → worth c t best u ≡ best v → next v ≤ u
-
--- so it is where next v is picked among the children
+-- a vertex is settled where its next is picked among the children
 pub picked-settled : {E : Graph} {c : Counts} {t : ℕ} {best next : ℕ → ℕ} {v : ℕ} {P : ℕ → Type 0} → ((u : ℕ) → P u ↔ E v u)
     → Picked (worth c t best) P (next v) → worth c t best (next v) ≡ best v → Settled E c t best next v
 picked-settled {next = next} {v = v} h p q = record {

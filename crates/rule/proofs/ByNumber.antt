@@ -5,25 +5,19 @@ use mathlib.Core.Logic.{_↔_}
 use mathlib.Core.List.{List, List·Memᴰ}
 use native.Mathlib.Omega.{arith}
 use native.Mathlib.Decide.{ℕ-discrete, decLt}
-use Rattle.bubble.specs.Superbubble.{F}
 use Rattle.bubble.proofs.Number.{Below}
 use Rattle.rule.specs.Lists.{Graph, CandidateSet, Counts}
 use Rattle.rule.specs.Fold.{Rule, Item, Fits}
 use Rattle.rule.specs.Laws.{RuleLaws, CandidateLaws}
+use Rattle.rule.specs.Next.{whole-row, Numbered}
 use Rattle.rule.proofs.Together.{Staying}
-use Rattle.rule.proofs.NewRows.{Next, row-whole, row-empty, row-next}
-
--- what the number of u says of the folded items
-pub record Numbered (E : Graph) (items : List Item) (n : ℕ) (next : ℕ → ℕ) (u : ℕ) : Type 0 where
-  pub whole : next u ≡ n → (i : Item) → List·Memᴰ i items → F E (i .entrance) (i .exit) u → u ≡ i .exit
-  pub one : next u < n → (i : Item) × List·Memᴰ i items × Next i u (next u)
-  pub none : n < next u → (i : Item) × List·Memᴰ i items × List·Memᴰ u (i .dropped)
+use Rattle.rule.proofs.NewRows.{row-whole, row-empty, row-next}
 
 -- what the number of u says of its edges in E₁
 pub record RowByNumber (E E₁ : Graph) (n : ℕ) (next : ℕ → ℕ) (u : ℕ) : Type 0 where
-  pub whole : next u ≡ n → (v : ℕ) → E₁ u v ↔ E u v
+  pub whole : next u ≡ whole-row n → (v : ℕ) → E₁ u v ↔ E u v
   pub one : next u < n → (v : ℕ) → E₁ u v ↔ (v ≡ next u)
-  pub none : n < next u → (v : ℕ) → E₁ u v → ⊥
+  pub none : whole-row n < next u → (v : ℕ) → E₁ u v → ⊥
 
 module _ {G : Graph → Type 0} {C : CandidateSet} {R : Rule} (L : CandidateLaws G C) (M : RuleLaws R) {E E₁ : Graph} {c : Counts} (g : G E) {items : List Item}
     (fit : (i : Item) → List·Memᴰ i items → Fits C R E c i) {n : ℕ} {next : ℕ → ℕ} where

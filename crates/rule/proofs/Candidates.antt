@@ -1,4 +1,4 @@
--- Document 01's candidates meet the laws in every graph without a cycle. Assumes nothing.
+-- The candidates of docs/RULES.md, Fold, meet the laws in every graph without a cycle. Assumes nothing.
 use Prim.Native.Nat.{ℕ}
 use Rattle.bubble.specs.Superbubble.{F.start, Reaches}
 use Rattle.bubble.proofs.Walks.{reaches-walk}

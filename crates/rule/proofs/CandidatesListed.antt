@@ -1,4 +1,4 @@
--- In a finite graph with decided edges document 01's candidates are decided, and can be listed. Assumes nothing.
+-- In a finite graph with decided edges the candidates of docs/RULES.md, Fold, are decided, and can be listed. Assumes nothing.
 use Prim.Native.Nat.{ℕ, _<_}
 use mathlib.Core.Path.{refl}
 use mathlib.Core.List.{List, [], _∷_, List·Memᴰ·head, List·Memᴰ·not-nil}

@@ -8,7 +8,7 @@ use lib.ListN.{length, take}
 use Rattle.bubble.specs.Superbubble.{Interior}
 use Rattle.bubble.proofs.Pigeonhole.{place-of}
 use Rattle.rule.specs.Lists.{Graph, CandidateSet, Counts, Listing, Same}
-use Rattle.rule.specs.Fold.{Rule, Item, Entrance, Applied, Folded}
+use Rattle.rule.specs.Fold.{Rule, Item, Entrance, Applied, GraphFolded}
 use Rattle.rule.specs.Laws.{RuleLaws, CandidateLaws}
 use Rattle.rule.proofs.Items.{item-unique}
 use Rattle.rule.proofs.WhereIs.{Where, Where.on-arm, Where.is-dropped, Where.neither, where-is}
@@ -55,7 +55,7 @@ module _ {G : Graph → Type 0} {C : CandidateSet} {R : Rule} (L : CandidateLaws
 
   -- the two numbers returned coincide too
   pub folded-same : {E E′ E″ : Graph} {c c′ c″ : Counts} {b f f′ l l′ : ℕ} → G E
-      → (one : Folded C R E c b E′ c′ f l) (other : Folded C R E c b E″ c″ f′ l′) → Same E′ E″ c′ c″ × (f ≡ f′) × (l ≡ l′)
+      → (one : GraphFolded C R E c b E′ c′ f l) (other : GraphFolded C R E c b E″ c″ f′ l′) → Same E′ E″ c′ c″ × (f ≡ f′) × (l ≡ l′)
   folded-same {E′ = E′} {E″ = E″} g one other =
       let same = applied-same (one .applied) (other .applied) in
       let kind = L .fewer (λ u v e. one .applied .edges u v .0 e .0) g in

@@ -1,4 +1,4 @@
--- Demand 3, for document 01's rule and candidates in every graph without a cycle whose edges lie below n, and for every lawful rule and set of candidates. Assumes nothing.
+-- Demand 3, for the rule and candidates of docs/RULES.md, Fold, in every graph without a cycle whose edges lie below n, and for every lawful rule and set of candidates. Assumes nothing.
 use Prim.Native.Nat.{ℕ, _≤_}
 use mathlib.Core.Path.{_≡_}
 use mathlib.Core.List.{List}
@@ -6,7 +6,7 @@ use lib.ListN.{length}
 use Rattle.bubble.specs.Superbubble.{Interior, Superbubble}
 use Rattle.bubble.proofs.Number.{Below}
 use Rattle.rule.specs.Lists.{Graph, CandidateSet, Counts, Listing, total, Same}
-use Rattle.rule.specs.Fold.{Rule, NoCycle, Candidate, Entrance, first-takes-all, Folded, InTurn, budgets-sum}
+use Rattle.rule.specs.Fold.{Rule, NoCycle, Candidate, Entrance, first-takes-all, GraphFolded, InTurn, budgets-sum}
 use Rattle.rule.specs.Laws.{RuleLaws, CandidateLaws}
 use Rattle.rule.proofs.Coincide.{applied-same}
 use Rattle.rule.proofs.Budgets.{in-turn-applied}
@@ -19,7 +19,7 @@ use Rattle.rule.proofs.Outermost.{no-interior}
 module _ {G : Graph → Type 0} {C : CandidateSet} {R : Rule} (L : CandidateLaws G C) (M : RuleLaws R) {E E′ : Graph} {c c′ : Counts} {budgets : List ℕ}
     (kind : G E) (turns : InTurn C R E c budgets E′ c′) where
   -- folding with any budgets in turn gives the same as one fold with their sum
-  pub as-once : {E″ : Graph} {c″ : Counts} {folded left : ℕ} → Folded C R E c (budgets-sum budgets) E″ c″ folded left → Same E′ E″ c′ c″
+  pub as-once : {E″ : Graph} {c″ : Counts} {folded left : ℕ} → GraphFolded C R E c (budgets-sum budgets) E″ c″ folded left → Same E′ E″ c′ c″
   as-once f = applied-same L M (in-turn-applied L M kind turns) (f .applied)
 
   -- the total never moves
@@ -32,10 +32,10 @@ module _ {G : Graph → Type 0} {C : CandidateSet} {R : Rule} (L : CandidateLaws
 
   -- and a further fold with any budget gives back its input
   pub gives-back : {l : List ℕ} → Listing (Entrance C E) l → length l ≤ budgets-sum budgets
-      → {E″ : Graph} {c″ : Counts} {budget folded left : ℕ} → Folded C R E′ c′ budget E″ c″ folded left → Same E″ E′ c″ c′
+      → {E″ : Graph} {c″ : Counts} {budget folded left : ℕ} → GraphFolded C R E′ c′ budget E″ c″ folded left → Same E″ E′ c″ c′
   gives-back k h f = nothing-changes (no-candidate k h) (f .applied)
 
--- document 01's fold
+-- the fold of docs/RULES.md
 module _ {E E′ : Graph} {c c′ : Counts} {budgets : List ℕ} (n : ℕ) (below : Below E n) (acyclic : NoCycle E)
     (turns : InTurn Candidate first-takes-all E c budgets E′ c′) where
   -- Once the budgets reach the number of outermost superbubbles with an interior of the first graph, no superbubble with an interior is left,

@@ -9,7 +9,7 @@ use Rattle.bubble.proofs.Pigeonhole.{getD-in, place-of, distinct-apart}
 use Rattle.bubble.proofs.Number.{Below, interior-below}
 use Rattle.bubble.proofs.Reflect.{decided, decides-member}
 use Rattle.rule.specs.Lists.{Graph, CandidateSet, Counts, Listing, sum}
-use Rattle.rule.specs.Fold.{Rule, NoCycle, Candidate, Entrance, first-takes-all, Item, Fits, Applied, Folded}
+use Rattle.rule.specs.Fold.{Rule, NoCycle, Candidate, Entrance, first-takes-all, Item, Fits, Applied, GraphFolded}
 use Rattle.rule.specs.Laws.{RuleLaws, CandidateLaws}
 use Rattle.rule.proofs.Together.{entrances, Staying}
 use Rattle.rule.proofs.WhereIs.{Where, Where.on-arm, Where.is-dropped, Where.neither, where-is}
@@ -102,7 +102,7 @@ module _ {E : Graph} (decide : (u v : ℕ) → Dec (E u v)) {n : ℕ} (below : B
       (i ∷ items, ap₂ {C = List ℕ} (λ a b. a ∷ b) q r, λ j m. ⊎-elim (λ e. rw e f) (fit j) (List·Memᴰ·cases-cons m))
 
   -- there is a fold with every budget; by folded-same there is only one
-  pub fold-exists : (budget : ℕ) → (E′ : Graph) × (c′ : Counts) × (folded : ℕ) × (left : ℕ) × Folded Candidate first-takes-all E c budget E′ c′ folded left
+  pub fold-exists : (budget : ℕ) → (E′ : Graph) × (c′ : Counts) × (folded : ℕ) × (left : ℕ) × GraphFolded Candidate first-takes-all E c budget E′ c′ folded left
   fold-exists budget =
       let (l, a) = candidates-listed decide below in
       let listed : (s : ℕ) → List·Memᴰ s (take budget l) → Entrance Candidate E s =

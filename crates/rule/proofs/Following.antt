@@ -5,7 +5,7 @@ use mathlib.Core.Logic.{_⊎_, inl, inr, ⊎-elim}
 use mathlib.Core.List.{List, [], _∷_, _++_, List·Memᴰ, List·Memᴰ·head, List·Memᴰ·tail, List·Memᴰ·not-nil, List·Memᴰ·eq-of-singleton, Memᴰ·cast}
 use Rattle.bubble.specs.Superbubble.{Reaches, Reaches.none, Reaches.then}
 use Rattle.bubble.proofs.Walks.{reaches-before}
-use Rattle.bubble.proofs.Pigeonhole.{Distinct, Distinct.fresh}
+use Rattle.bubble.specs.Distinct.{Distinct, Distinct.fresh}
 use Rattle.rule.specs.Lists.{Graph, Follows, Follows.here, Follows.later}
 
 -- the list begins with v

@@ -6,7 +6,8 @@ use mathlib.Core.List.{_++_, List·Memᴰ, List·Memᴰ·append-cases, Memᴰ·a
 use native.Mathlib.Decide.{ℕ-discrete}
 use Rattle.bubble.specs.Superbubble.{Interior, Superbubble}
 use Rattle.bubble.proofs.Unique.{exit-unique}
-use Rattle.bubble.proofs.Pigeonhole.{Distinct, distinct-append}
+use Rattle.bubble.specs.Distinct.{Distinct}
+use Rattle.bubble.proofs.Pigeonhole.{distinct-append}
 use Rattle.bubble.proofs.Reflect.{decided, decides-member}
 use Rattle.rule.specs.Lists.{Graph, CandidateSet, Counts}
 use Rattle.rule.specs.Kept.{Arm}
@@ -42,7 +43,7 @@ module _ {G : Graph → Type 0} {C : CandidateSet} {R : Rule} (L : CandidateLaws
     pub interior-distinct : Distinct (i .arm ++ i .dropped)
     interior-distinct = distinct-append arm-distinct-inner (rising-distinct (f .rest .rising)) (λ v m k. f .rest .holds v .0 k .1 m)
 
-  -- the entrance settles the item
+  -- the entrance determines the item
   pub item-unique : {i j : Item} → Fits C R E c i → Fits C R E c j → i .entrance ≡ j .entrance → i ≡ j
   item-unique {i} {j} f h p =
       let q : i .exit ≡ j .exit = exit-unique (item-superbubble f) (rw p (item-superbubble h)) in

@@ -7,13 +7,15 @@ use native.Mathlib.Omega.{arith}
 use lib.ListN.{length}
 use Rattle.bubble.specs.Superbubble.{F, F.start, F.on, Walk, Walk.edge, Walk.more, Bubbloid}
 use Rattle.bubble.proofs.Facts.{successor}
-use Rattle.bubble.proofs.Pigeonhole.{Distinct, Distinct.empty, Distinct.fresh, distinct-below}
+use Rattle.bubble.specs.Distinct.{Distinct, Distinct.empty, Distinct.fresh}
+use Rattle.bubble.proofs.Pigeonhole.{distinct-below}
 use Rattle.bubble.proofs.Number.{Below}
 use Rattle.rule.specs.Lists.{Graph, Counts, Listing}
 use Rattle.rule.specs.Kept.{Kept}
 use Rattle.rule.proofs.Listings.{listing-exists}
 use Rattle.rule.proofs.Pick.{Picked, pick}
-use Rattle.rule.proofs.ByNext.{worth, Settled, picked-settled, Short, by-next-kept, by-next-ends, worth-same}
+use Rattle.rule.specs.Next.{worth, Settled}
+use Rattle.rule.proofs.ByNext.{picked-settled, Short, by-next-kept, by-next-ends, worth-same}
 
 -- the best entry, if there is one
 choice : (ℕ → ℕ) → List ℕ → ℕ

@@ -23,7 +23,7 @@ pub mod Total
 pub mod Ends
 pub mod NewRows
 pub mod ByNumber
--- document 01's rule and its candidates are lawful
+-- the rule and the candidates of docs/RULES.md, Fold, are lawful
 pub mod Choice
 pub mod Through
 pub mod BestLaws
@@ -31,6 +31,7 @@ pub mod Reach
 pub mod Passable
 pub mod Candidates
 pub mod Outermost
+pub mod TheFold
 -- demand 3
 pub mod Demand
 -- the kept path by dynamic programming, and a fold for every graph and budget

@@ -1,4 +1,5 @@
--- The edges that stay, row by row: all of the row where no folded superbubble holds the vertex but at its exit, none where it is dropped, and else the one to the next vertex of the kept path. Assumes nothing.
+-- The edges that stay, row by row: all of the row where no folded superbubble holds the vertex but at its exit, none where it is dropped,
+-- and else the one to the next vertex of the kept path. Assumes nothing.
 use Prim.Native.Nat.{ℕ}
 use mathlib.Core.Path.{_≡_, sym, _∙_, subst}
 use mathlib.Core.Logic.{_≢_, _↔_, ⊎-elim}
@@ -6,18 +7,15 @@ use mathlib.Core.List.{List, [], _∷_, _++_, List·Memᴰ, List·Memᴰ·cases-
 use native.Mathlib.Decide.{ℕ-discrete}
 use Rattle.bubble.specs.Superbubble.{F, F.on, Interior, Bubbloid}
 use Rattle.bubble.proofs.Facts.{no-edge-from-exit}
-use Rattle.rule.specs.Lists.{Graph, CandidateSet, Counts, Follows}
+use Rattle.rule.specs.Lists.{Graph, CandidateSet, Counts}
 use Rattle.rule.specs.Fold.{Rule, Item, Fits}
 use Rattle.rule.specs.Laws.{RuleLaws, CandidateLaws}
+use Rattle.rule.specs.Next.{Next}
 use Rattle.rule.proofs.Thread.{Thread}
 use Rattle.rule.proofs.Following.{follows-tail}
 use Rattle.rule.proofs.Arms.{arm-thread}
 use Rattle.rule.proofs.Together.{First, first-folded, Staying}
 use Rattle.rule.proofs.Items.{item-superbubble, item-arm, item-unique}
-
--- v is the next vertex after u from the entrance along the arm to the exit
-abbrev pub Next : Item → Graph
-Next i = Follows (i .entrance ∷ i .arm ++ (i .exit ∷ []))
 
 module _ {G : Graph → Type 0} {C : CandidateSet} {R : Rule} (L : CandidateLaws G C) (M : RuleLaws R) {E : Graph} {c : Counts}
     (g : G E) {items : List Item} (fit : (i : Item) → List·Memᴰ i items → Fits C R E c i) where

@@ -7,7 +7,8 @@ use native.Mathlib.Omega.{arith}
 use lib.ListN.{length}
 use Rattle.bubble.specs.Superbubble.{F, F.start, Interior, Superbubble}
 use Rattle.bubble.proofs.Nesting.{Nested}
-use Rattle.bubble.proofs.Pigeonhole.{Distinct, Distinct.empty, Distinct.fresh, distinct-below}
+use Rattle.bubble.specs.Distinct.{Distinct, Distinct.empty, Distinct.fresh}
+use Rattle.bubble.proofs.Pigeonhole.{distinct-below}
 use Rattle.bubble.proofs.Number.{Below, entrance-below}
 use Rattle.rule.specs.Lists.{Graph}
 use Rattle.rule.specs.Fold.{Candidate}

@@ -1,5 +1,5 @@
 -- Superbubbles with an interior that a path passes at most once, or that have no bare edge: they can be folded in any graph.
--- The outermost among them meet the laws of candidates in every graph. In a graph without a cycle they are document 01's candidates. Assumes nothing.
+-- The outermost among them meet the laws of candidates in every graph. In a graph without a cycle they are the candidates of docs/RULES.md, Fold. Assumes nothing.
 use Prim.Native.Nat.{ℕ}
 use mathlib.Core.Path.{_≡_, sym, _∙_}
 use mathlib.Core.Logic.{_≢_, ⊎-elim}

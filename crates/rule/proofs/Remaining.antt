@@ -4,7 +4,7 @@ use mathlib.Core.Path.{_≡_, sym, _∙_, ap}
 use mathlib.Core.List.{List·Memᴰ, Memᴰ·map, Memᴰ·cast}
 use lib.ListN.{length, take, drop, length-map, length-take}
 use Rattle.bubble.specs.Superbubble.{Interior}
-use Rattle.bubble.proofs.Pigeonhole.{Distinct}
+use Rattle.bubble.specs.Distinct.{Distinct}
 use Rattle.rule.specs.Lists.{Graph, CandidateSet, Counts, Listing}
 use Rattle.rule.specs.Fold.{Rule, Item, Entrance, Applied}
 use Rattle.rule.specs.Laws.{RuleLaws, CandidateLaws}

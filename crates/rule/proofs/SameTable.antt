@@ -7,7 +7,7 @@ use native.Mathlib.Numerals.{add-one}
 use native.Mathlib.Omega.{arith}
 use lib.ListN.{length, take, getD}
 use lib.Seq.{take-length, ext-getD}
-use Rattle.table.specs.Table.{vertices, row, In, Edge, Rises, WellFormed, countSum}
+use Rattle.table.specs.Table.{vertices, row, In, Rises, countSum, Rows, Table, edges, Sound}
 use Rattle.table.proofs.RowLaws.{next-start, targets-to-next}
 use Rattle.bubble.proofs.Pigeonhole.{getD-in, place-of}
 use Rattle.rule.specs.Lists.{Rising, Rising.empty, Rising.first, total, Same}
@@ -32,8 +32,11 @@ in-list : {v : ℕ} {l : List ℕ} → In v l ↔ List·Memᴰ v l
 in-list {v} {l} =
     (λ i. Memᴰ·cast (sym (i .stands)) (getD-in l (i .place) (i .inside)), λ m. let (j, h, q) = place-of m in record { place = j; inside = h; stands = q })
 
-module _ {starts targets starts′ targets′ : List ℕ} (w : WellFormed starts targets) (w′ : WellFormed starts′ targets′)
-    (n : length starts ≡ length starts′) (same : (u v : ℕ) → Edge starts targets u v ↔ Edge starts′ targets′ u v) where
+module _ {rows rows′ : Rows} (w : Sound rows) (w′ : Sound rows′) (n : length (rows .starts) ≡ length (rows′ .starts))
+    (same : (u v : ℕ) → edges rows u v ↔ edges rows′ u v) where
+  open Rows rows using (starts, targets)
+  open Rows rows′ using (starts as starts′, targets as targets′)
+
   row-same : (v : ℕ) → v < vertices starts → row starts targets v ≡ row starts′ targets′ v
   row-same v h =
       let h′ : v < vertices starts′ = omega arith in
@@ -53,21 +56,28 @@ module _ {starts targets starts′ targets′ : List ℕ} (w : WellFormed starts
       targets-to-next w v k ∙ ap₂ _++_ r (row-same v k) ∙ sym (targets-to-next w′ v k′) in
       (rw add-one at one, rw add-one at two)
 
-  pub same-table : (starts ≡ starts′) × (targets ≡ targets′)
-  same-table =
+  same-starts : starts ≡ starts′
+  same-starts = ext-getD 0 starts starts′ n (λ v h. before v h .0)
+
+  same-targets : targets ≡ targets′
+  same-targets =
       let some : 0 < length starts = w .some in
       let (q, r) = before (vertices starts) (omega arith) in
       let e : getD starts (vertices starts) 0 ≡ length targets = w .starts-fit .ends in
       let e′ : getD starts′ (vertices starts) 0 ≡ length targets′ = ap (λ (x : ℕ). getD starts′ (x - 1) 0) n ∙ w′ .starts-fit .ends in
       let all : take (length targets) targets ≡ take (length targets′) targets′ = rw (e, e′) at r in
-      (ext-getD 0 starts starts′ n (λ v h. before v h .0), sym (take-length targets) ∙ all ∙ take-length targets′)
+      sym (take-length targets) ∙ all ∙ take-length targets′
 
-pub same-lists : {starts targets counts starts′ targets′ counts′ : List ℕ} → WellFormed starts targets → WellFormed starts′ targets′
-    → length starts ≡ length starts′ → length counts ≡ length counts′
-    → Same (Edge starts targets) (Edge starts′ targets′) (count-of counts) (count-of counts′) → (starts ≡ starts′) × (targets ≡ targets′) × (counts ≡ counts′)
-same-lists {counts = counts} {counts′ = counts′} w w′ n m s =
-    let (q, r) = same-table w w′ n (s .edges) in
-    (q, r, ext-getD 0 counts counts′ m (λ v h. s .counts v))
+  pub same-rows : rows ≡ rows′
+  same-rows = λ i. record { starts = same-starts i; targets = same-targets i }
+
+pub same-tables : {table table′ : Table} → Sound (table .rows) → Sound (table′ .rows) → length (table .rows .starts) ≡ length (table′ .rows .starts)
+    → length (table .counts) ≡ length (table′ .counts)
+    → Same (edges (table .rows)) (edges (table′ .rows)) (count-of (table .counts)) (count-of (table′ .counts)) → table ≡ table′
+same-tables {table} {table′} w w′ n m s =
+    let q = same-rows w w′ n (s .edges) in
+    let r = ext-getD 0 (table .counts) (table′ .counts) m (λ v h. s .counts v) in
+    λ i. record { rows = q i; counts = r i }
 
 pub total-of-counts : (counts : List ℕ) → total (count-of counts) (length counts) ≡ countSum counts
 total-of-counts [] = refl

@@ -4,7 +4,7 @@ use mathlib.Core.Path.{refl, sym}
 use mathlib.Core.Logic.{_≢_, _↔_, ⊎-elim}
 use mathlib.Core.List.{List, [], _∷_, map, List·Memᴰ, List·Memᴰ·head, List·Memᴰ·tail, List·Memᴰ·not-nil, List·Memᴰ·cases-cons, Memᴰ·map, Memᴰ·cast}
 use Rattle.bubble.proofs.Facts.{exit-inside}
-use Rattle.bubble.proofs.Pigeonhole.{Distinct, Distinct.fresh}
+use Rattle.bubble.specs.Distinct.{Distinct, Distinct.fresh}
 use Rattle.rule.specs.Lists.{Graph, CandidateSet}
 use Rattle.rule.specs.Kept.{Arm}
 use Rattle.rule.specs.Fold.{Item, Stays}

@@ -5,7 +5,8 @@ use mathlib.Core.Logic.{⊎-elim}
 use mathlib.Core.List.{List, [], _∷_, _++_, List·Memᴰ, List·Memᴰ·head, List·Memᴰ·tail, List·Memᴰ·not-nil, List·Memᴰ·append-cases, Memᴰ·append-left, Memᴰ·append-right, Memᴰ·map, Memᴰ·cast}
 use native.Mathlib.Omega.{arith}
 use lib.ListN.{length}
-use Rattle.bubble.proofs.Pigeonhole.{Distinct, Distinct.empty, Distinct.fresh, distinct-append}
+use Rattle.bubble.specs.Distinct.{Distinct, Distinct.empty, Distinct.fresh}
+use Rattle.bubble.proofs.Pigeonhole.{distinct-append}
 use Rattle.bubble.proofs.Number.{Below, interior-below}
 use Rattle.rule.specs.Lists.{Graph, CandidateSet, Counts, sum, total}
 use Rattle.rule.specs.Fold.{Rule, Item, Fits, Applied}

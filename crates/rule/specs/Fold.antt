@@ -1,5 +1,5 @@
--- Document 01's fold as a definition over any graph with counts: candidates, sets, kept paths and sums are those of the graph handed in.
--- Which superbubbles are candidates, what is kept and how the dropped counts are shared are arguments; `Candidate` and `first-takes-all` are document 01's. Assumes nothing.
+-- The fold of docs/RULES.md, Fold, as a definition over any graph with counts: candidates, sets, kept paths and sums are those of the graph handed in.
+-- Which superbubbles are candidates, what is kept and how the dropped counts are shared are arguments; `Candidate` and `first-takes-all` are those of docs/RULES.md. Assumes nothing.
 use Prim.Native.Nat.{ℕ, zero, suc, _+_, _<_}
 use mathlib.Core.Path.{_≡_}
 use mathlib.Core.Logic.{_↔_}
@@ -9,11 +9,11 @@ use Rattle.bubble.specs.Superbubble.{F, Walk, Interior, Outermost}
 use Rattle.rule.specs.Lists.{Graph, CandidateSet, Counts, Listing, sum, Follows}
 use Rattle.rule.specs.Kept.{Kept}
 
--- the graphs that document 01 folds: no walk of one or more edges closes
+-- the graphs that docs/RULES.md folds: no walk of one or more edges closes
 abbrev pub NoCycle : Graph → Type 0
 NoCycle E = (v : ℕ) → Walk E (λ u. Unit {0}) v v → ⊥
 
--- document 01's candidates: the outermost superbubbles with an interior
+-- the candidates of docs/RULES.md, Fold: the outermost superbubbles with an interior
 pub record Candidate (E : Graph) (s t : ℕ) : Type 0 where
   pub outermost : Outermost E s t
   pub interior : (v : ℕ) × Interior E s t v
@@ -28,7 +28,7 @@ abbrev pub to-first : ℕ → ℕ → ℕ → ℕ
 to-first d k zero = d
 to-first d k (suc j) = 0
 
--- document 01's rule
+-- the rule of docs/RULES.md, Fold
 abbrev pub first-takes-all : Rule
 first-takes-all = record { keeps = Kept; portion = to-first }
 
@@ -72,16 +72,16 @@ module _ (C : CandidateSet) (R : Rule) where
     pub untouched : (v : ℕ) → ((i : Item) → List·Memᴰ i items → Interior E (i .entrance) (i .exit) v → ⊥) → c′ v ≡ c v
 
   -- and what is returned: how many were folded, and how many candidates remain in the new graph
-  pub record Folded (E : Graph) (c : Counts) (budget : ℕ) (E′ : Graph) (c′ : Counts) (folded left : ℕ) : Type 0 where
+  pub record GraphFolded (E : Graph) (c : Counts) (budget : ℕ) (E′ : Graph) (c′ : Counts) (folded left : ℕ) : Type 0 where
     pub applied : Applied E c budget E′ c′
     pub how-many : folded ≡ length (applied .items)
     pub remaining : (l : List ℕ) × Listing (Entrance C E′) l × (left ≡ length l)
 
   -- folding with one or more budgets in turn, each on what the last left
   pub data InTurn : Graph → Counts → List ℕ → Graph → Counts → Type 1 where
-    once : {E E′ : Graph} {c c′ : Counts} {budget folded left : ℕ} → Folded E c budget E′ c′ folded left → InTurn E c (budget ∷ []) E′ c′
+    once : {E E′ : Graph} {c c′ : Counts} {budget folded left : ℕ} → GraphFolded E c budget E′ c′ folded left → InTurn E c (budget ∷ []) E′ c′
     then : {E E′ E″ : Graph} {c c′ c″ : Counts} {budget folded left : ℕ} {budgets : List ℕ}
-        → Folded E c budget E′ c′ folded left → InTurn E′ c′ budgets E″ c″ → InTurn E c (budget ∷ budgets) E″ c″
+        → GraphFolded E c budget E′ c′ folded left → InTurn E′ c′ budgets E″ c″ → InTurn E c (budget ∷ budgets) E″ c″
 
 -- the budgets added up
 abbrev pub budgets-sum : List ℕ → ℕ

@@ -30,6 +30,6 @@ pub record Best (score : Counts → List ℕ → ℕ) (E : Graph) (c : Counts) (
   pub arm : Arm E s t l
   pub unbeaten : (k : List ℕ) → Arm E s t k → Beats (score c) t k l → ⊥
 
--- document 01: a path from entrance to exit with the largest sum of counts over its inner vertices; the bare edge has sum 0
+-- docs/RULES.md, Fold: a path from entrance to exit with the largest sum of counts over its inner vertices; the bare edge has sum 0
 abbrev pub Kept : Graph → Counts → ℕ → ℕ → List ℕ → Type 0
 Kept = Best sum

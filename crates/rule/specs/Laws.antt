@@ -1,12 +1,15 @@
--- The laws that a rule and a set of candidates must meet. Demand 3 holds for every rule and every set of candidates that do. Assumes nothing.
+-- The laws that a rule, a set of candidates and a way of folding must meet. Demand 3 holds for every rule and every set of candidates that do. Assumes nothing.
 use Prim.Native.Nat.{ℕ, _≤_, _<_}
 use mathlib.Core.Path.{_≡_}
 use mathlib.Core.Logic.{_≢_, _↔_}
 use mathlib.Core.List.{List, [], List·Memᴰ}
+use Rattle.table.specs.Verdict.{AllMet, NeverZero}
+use Rattle.table.specs.Table.{Rows, edges}
 use Rattle.bubble.specs.Superbubble.{F, Interior, Reaches, Superbubble}
 use Rattle.rule.specs.Lists.{Graph, CandidateSet, Counts, total}
 use Rattle.rule.specs.Kept.{Arm}
 use Rattle.rule.specs.Fold.{Rule, Stays}
+use Rattle.rule.specs.Way.{Way}
 
 -- two graphs look the same from inside s, t: the same U and the same edges in it
 pub record SameInside (E E′ : Graph) (s t : ℕ) : Type 0 where
@@ -52,3 +55,13 @@ pub record CandidateLaws (G : Graph → Type 0) (C : CandidateSet) : Type 1 wher
   pub apart : {E : Graph} {s t x y v : ℕ} → G E → C E s t → C E x y → s ≢ x → Interior E s t v → F E x y v → ⊥
   -- the candidates after one is folded are the others
   pub others : {E E′ : Graph} {s t : ℕ} {l : List ℕ} → G E → C E s t → Arm E s t l → OneFolded E s t l E′ → (x y : ℕ) → C E′ x y ↔ (C E x y × (x ≢ s))
+
+-- the laws of a way of folding
+pub record WayLaws (way : Way) : Type 1 where
+  pub candidates-lawful : CandidateLaws (way .Kind) (way .candidates)
+  pub rule-lawful : RuleLaws (way .rule)
+  -- a table meets what is asked exactly if its graph is one that is folded
+  pub asked-kind : (rows : Rows) → AllMet (way .asked rows) → way .Kind (edges rows)
+  pub kind-asked : (rows : Rows) → way .Kind (edges rows) → AllMet (way .asked rows)
+  -- no refusal has the number 0
+  pub never-zero : (rows : Rows) → NeverZero (way .asked rows)

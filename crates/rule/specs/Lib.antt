@@ -2,5 +2,7 @@
 pub mod Lists
 pub mod Kept
 pub mod Fold
+pub mod Way
 pub mod Laws
 pub mod Tables
+pub mod Next

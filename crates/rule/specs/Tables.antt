@@ -3,30 +3,29 @@ use Prim.Native.Nat.{ℕ}
 use mathlib.Core.Path.{_≡_}
 use mathlib.Core.List.{List, [], _∷_}
 use lib.ListN.{length, getD}
-use Rattle.table.specs.Table.{Edge, WellFormed}
+use Rattle.table.specs.Table.{Table, edges, Sound}
 use Rattle.rule.specs.Lists.{CandidateSet}
-use Rattle.rule.specs.Fold.{Rule, Folded}
+use Rattle.rule.specs.Fold.{Rule, GraphFolded}
 
 -- the count of each vertex
 abbrev pub count-of : List ℕ → ℕ → ℕ
 count-of counts v = getD counts v 0
 
 -- a well-formed table with as many vertices, and as many counts
-pub record SameSize (starts counts starts′ targets′ counts′ : List ℕ) : Type 0 where
-  pub well-formed : WellFormed starts′ targets′
-  pub as-many-vertices : length starts′ ≡ length starts
-  pub as-many-counts : length counts′ ≡ length counts
+pub record SameSize (table table′ : Table) : Type 0 where
+  pub well-formed : Sound (table′ .rows)
+  pub as-many-vertices : length (table′ .rows .starts) ≡ length (table .rows .starts)
+  pub as-many-counts : length (table′ .counts) ≡ length (table .counts)
 
 module _ (C : CandidateSet) (R : Rule) where
   -- the second table and its counts are the first ones folded
-  pub record TableFolded (starts targets counts : List ℕ) (budget : ℕ) (starts′ targets′ counts′ : List ℕ) (folded left : ℕ) : Type 0 where
-    pub same-size : SameSize starts counts starts′ targets′ counts′
-    pub graph-folded : Folded C R (Edge starts targets) (count-of counts) budget (Edge starts′ targets′) (count-of counts′) folded left
+  pub record TableFolded (table : Table) (budget : ℕ) (table′ : Table) (folded left : ℕ) : Type 0 where
+    pub same-size : SameSize table table′
+    pub graph-folded :
+        GraphFolded C R (edges (table .rows)) (count-of (table .counts)) budget (edges (table′ .rows)) (count-of (table′ .counts)) folded left
 
   -- folding with one or more budgets in turn, each on what the last left
-  pub data TablesInTurn : List ℕ → List ℕ → List ℕ → List ℕ → List ℕ → List ℕ → List ℕ → Type 0 where
-    once : {starts targets counts starts′ targets′ counts′ : List ℕ} {budget folded left : ℕ}
-        → TableFolded starts targets counts budget starts′ targets′ counts′ folded left → TablesInTurn starts targets counts (budget ∷ []) starts′ targets′ counts′
-    then : {starts targets counts starts′ targets′ counts′ starts″ targets″ counts″ budgets : List ℕ} {budget folded left : ℕ}
-        → TableFolded starts targets counts budget starts′ targets′ counts′ folded left → TablesInTurn starts′ targets′ counts′ budgets starts″ targets″ counts″
-        → TablesInTurn starts targets counts (budget ∷ budgets) starts″ targets″ counts″
+  pub data TablesInTurn : Table → List ℕ → Table → Type 0 where
+    once : {table table′ : Table} {budget folded left : ℕ} → TableFolded table budget table′ folded left → TablesInTurn table (budget ∷ []) table′
+    then : {table table′ table″ : Table} {budgets : List ℕ} {budget folded left : ℕ}
+        → TableFolded table budget table′ folded left → TablesInTurn table′ budgets table″ → TablesInTurn table (budget ∷ budgets) table″

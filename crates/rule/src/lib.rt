@@ -1,1 +1,1 @@
-// No code: document 01's fold rule stands in specs/, and what follows from it, demand 3 among it, in proofs/.
+// No code: the fold rule of docs/RULES.md stands in specs/, and what follows from it, demand 3 among it, in proofs/.

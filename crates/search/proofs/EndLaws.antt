@@ -7,32 +7,33 @@ use native.Mathlib.Omega.{arith}
 use native.Mathlib.Decide.{ℕ-discrete, decLt}
 use lib.ListN.{length, getD, take}
 use Rattle.table.specs.Table.{vertices, row, In, Edge}
+use Rattle.table.proofs.RowLaws.{edges-below}
 use Rattle.bubble.specs.Superbubble.{F, Walk, Walk.edge, Bubbloid}
 use Rattle.bubble.proofs.Walks.{walk-before}
 use Rattle.bubble.proofs.Facts.{exit-inside, closed-backward, predecessor}
 use Rattle.bubble.proofs.FromOrder.{Placed, Rising, rising-bubbloid, rising-set}
 use Rattle.bubble.proofs.Pigeonhole.{places-below}
+use Rattle.parents.proofs.PlaceLaws.{in-take, take-in}
+use Rattle.walking.specs.Walking.{waits}
+use Rattle.walking.proofs.SumLaws.{sum-term}
+use Rattle.walking.proofs.WaitLaws.{none-waits}
 use Rattle.search.specs.Search.{Visited}
-use Rattle.search.specs.Steps.{waits, unvisited, Alone}
-use Rattle.table.proofs.RowLaws.{edges-below}
-use Rattle.search.proofs.SumLaws.{sum-term}
-use Rattle.search.proofs.WaitLaws.{none-waits}
-use Rattle.search.proofs.OccurrenceLaws.{in-take, take-in}
+use Rattle.search.specs.Steps.{unvisited, Alone}
 use Rattle.search.proofs.UnvisitedLaws.{unvisited-parent}
 use Rattle.search.proofs.Going.{Going, tail-most, seen}
 
-module _ {starts targets parents left order : List ℕ} {s head tail waiting : ℕ} (g : Going starts targets parents left order s head tail waiting) where
+module _ {starts targets parents pending order : List ℕ} {s head tail waiting : ℕ} (g : Going starts targets parents pending order s head tail waiting) where
   -- the vertex at the head is alone, and does not lead back to the entrance
   module _ (lone : Alone head tail waiting) (forward : In s (row starts targets (getD order head 0)) → ⊥) where
-    none-waits-now : (v : ℕ) → v < vertices starts → waits (getD left v 0) (getD parents v 0) ≡ 0
+    none-waits-now : (v : ℕ) → v < vertices starts → waits (getD pending v 0) (getD parents v 0) ≡ 0
     none-waits-now v l =
-        let term = sum-term (length left) (λ x. waits (getD left x 0) (getD parents x 0)) v (omega (arith, g .each)) in
+        let term = sum-term (length pending) (λ x. waits (getD pending x 0) (getD parents x 0)) v (omega (arith, g .each)) in
         omega (arith, lone .nowhere, g .waited)
 
     -- the children of the visited vertices stand among the places
     children : (i : ℕ) {v : ℕ} → i < head → Edge starts targets (getD order i 0) v → Placed (λ x. getD order x 0) head v
     children i {v} l e =
-        let none : getD left v 0 ≡ 0 = none-waits (getD left v 0) (getD parents v 0) (none-waits-now v (edges-below (g .well-formed) _ v e .1)) (seen g i v l e) in
+        let none : getD pending v 0 ≡ 0 = none-waits (getD pending v 0) (getD parents v 0) (none-waits-now v (edges-below (g .well-formed) _ v e .1)) (seen g i v l e) in
         let (j, m, q) = g .whole (getD order i 0) v none e in
         record { at = j; bound = omega (arith, lone .last); same = q }
 
@@ -112,9 +113,10 @@ module _ {starts targets parents left order : List ℕ} {s head tail waiting : �
     stuck-parent {v} x =
         let away : v ≢ s = λ q. x .1 (rw (g .first ∙ sym q) at (in-take order head 0 (omega (arith, g .some)) within-order)) in
         let (y, f, e) = predecessor b (x .0) away in
-        let left-over : getD left v 0 ≢ 0 = λ q. let (i, l, p) = g .whole y v q e in x .1 (rw p at (in-take order head i (omega arith) within-order)) in
-        let (u, d, n) = unvisited-parent starts targets (take head order) (let some : 0 < unvisited starts targets (take head order) v = omega (arith, g .lowered v) in some) in
-        (u, d, (closed-backward b (x .0) away d, n))
+        let some-pending : getD pending v 0 ≢ 0 = λ q. let (i, l, p) = g .whole y v q e in x .1 (rw p at (in-take order head i (omega arith) within-order)) in
+        let some : 0 < unvisited starts targets (take head order) v = omega (arith, g .lowered v) in
+        let (u, d, n) = unvisited-parent starts targets (take head order) some in
+        (u, d, (closed-backward b {u = u} (x .0) away d, n))
 
     stuck-exit : Stuck t
     unfolding Stuck

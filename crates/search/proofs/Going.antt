@@ -11,39 +11,41 @@ use Rattle.table.specs.Table.{vertices, row, In, Edge, WellFormed}
 use Rattle.bubble.specs.Superbubble.{F, F.start, F.on, B, B.end, B.from, Bubbloid}
 use Rattle.bubble.proofs.Facts.{no-edge-to-entrance, successor}
 use Rattle.bubble.proofs.Pigeonhole.{places-below}
-use Rattle.search.specs.Search.{Parents, Searchable}
-use Rattle.search.specs.Steps.{waits, waiters, unvisited, Lowered, Alone}
-use Rattle.search.proofs.SumLaws.{sum-zero}
-use Rattle.search.proofs.WaitLaws.{waits-none, waits-all}
-use Rattle.search.proofs.OccurrenceLaws.{in-take, take-in}
+use Rattle.parents.specs.Parents.{Parents}
+use Rattle.parents.proofs.PlaceLaws.{in-take, take-in}
+use Rattle.walking.specs.Walking.{waits, waiters}
+use Rattle.walking.proofs.SumLaws.{sum-zero}
+use Rattle.walking.proofs.WaitLaws.{waits-none, waits-all}
+use Rattle.search.specs.Search.{Searchable}
+use Rattle.search.specs.Steps.{unvisited, Lowered, Alone}
 use Rattle.search.proofs.UnvisitedLaws.{none-unvisited, visited-less, less-visited, unvisited-all}
 
--- The first `head` of the order are visited, those up to `tail` are ready. They begin with s and are different vertices. What is left of a vertex's
--- parents are those not visited. After s, the entries are the vertices with parents and none left, and each has its parents at places before its own.
+-- The first `head` of the order are visited, those up to `tail` are ready. They begin with s and are different vertices. A vertex's pending
+-- parents are those not visited. After s, the entries are the vertices with parents and none pending, and each has its parents at places before its own.
 -- No visited vertex leads to s, each has a child, and none is the exit of a bubbloid from s.
-pub record Going (starts targets parents left order : List ℕ) (s head tail waiting : ℕ) : Type 0 where
+pub record Going (starts targets parents pending order : List ℕ) (s head tail waiting : ℕ) : Type 0 where
   pub well-formed : WellFormed starts targets
   pub counted : Parents (vertices starts) targets parents
   pub passed : head ≤ tail
   pub some : 0 < tail
   pub room : vertices starts ≤ length order
-  pub each : length left ≡ vertices starts
+  pub each : length pending ≡ vertices starts
   pub first : getD order 0 0 ≡ s
   pub below : (i : ℕ) → i < tail → getD order i 0 < vertices starts
   pub apart : (i j : ℕ) → i < tail → j < tail → getD order i 0 ≡ getD order j 0 → i ≡ j
-  pub lowered : (v : ℕ) → getD left v 0 ≡ unvisited starts targets (take head order) v
-  pub none-left : (i : ℕ) → 0 < i → i < tail → getD left (getD order i 0) 0 ≡ 0
+  pub lowered : (v : ℕ) → getD pending v 0 ≡ unvisited starts targets (take head order) v
+  pub none-pending : (i : ℕ) → 0 < i → i < tail → getD pending (getD order i 0) 0 ≡ 0
   pub parent : (i : ℕ) → 0 < i → i < tail → (u : ℕ) × Edge starts targets u (getD order i 0)
   pub behind : (i u : ℕ) → 0 < i → i < tail → Edge starts targets u (getD order i 0) → (j : ℕ) × (j < i) × (j < head) × (getD order j 0 ≡ u)
-  pub whole : (u v : ℕ) → getD left v 0 ≡ 0 → Edge starts targets u v → (i : ℕ) × (i < tail) × (getD order i 0 ≡ v)
+  pub whole : (u v : ℕ) → getD pending v 0 ≡ 0 → Edge starts targets u v → (i : ℕ) × (i < tail) × (getD order i 0 ≡ v)
   pub none-back : (i : ℕ) → i < head → Edge starts targets (getD order i 0) s → ⊥
   pub child : (i : ℕ) → i < head → (v : ℕ) × Edge starts targets (getD order i 0) v
   pub before-exit : (t : ℕ) → Bubbloid (Edge starts targets) s t → (i : ℕ) → i < head → getD order i 0 ≢ t
-  pub waited : waiting ≡ waiters left parents
+  pub waited : waiting ≡ waiters pending parents
 
 -- at the entrance
-pub going-none : {starts targets parents left order : List ℕ} {s : ℕ} → Searchable starts targets parents left order s → Going starts targets parents left (set order 0 s) s 0 1 0
-going-none {starts} {targets} {parents} {left} {order} {s} p = record {
+pub going-none : {starts targets parents pending order : List ℕ} {s : ℕ} → Searchable starts targets parents pending order s → Going starts targets parents pending (set order 0 s) s 0 1 0
+going-none {starts} {targets} {parents} {pending} {order} {s} p = record {
   well-formed = p .well-formed;
   counted = p .counted;
   passed = omega arith;
@@ -54,27 +56,27 @@ going-none {starts} {targets} {parents} {left} {order} {s} p = record {
   below = λ i l. let q : i ≡ 0 = omega arith in rw (q, here) (p .vertex);
   apart = λ i j l m q. omega arith;
   lowered = all;
-  none-left = λ i l m. absurd (omega arith);
+  none-pending = λ i l m. absurd (omega arith);
   parent = λ i l m. absurd (omega arith);
   behind = λ i u l m. absurd (omega arith);
   whole = λ u v q e. let i = none-unvisited starts targets [] (sym (all v) ∙ q) e in absurd (omega (arith, i .inside));
   none-back = λ i l. absurd (omega arith);
   child = λ i l. absurd (omega arith);
   before-exit = λ t b i l. absurd (omega arith);
-  waited = sym (sum-zero (length left) (λ v. waits (getD left v 0) (getD parents v 0)) (λ v l. waits-all (getD left v 0) (getD parents v 0) (rw (p .whole) (omega arith))));
+  waited = sym (sum-zero (length pending) (λ v. waits (getD pending v 0) (getD parents v 0)) (λ v l. waits-all (getD pending v 0) (getD parents v 0) (rw (p .whole) (omega arith))));
 }
   where
     here : getD (set order 0 s) 0 0 ≡ s
     here = getD-set-same order 0 s 0 (omega (arith, p .vertex, p .room))
 
-    all : (v : ℕ) → getD left v 0 ≡ unvisited starts targets [] v
+    all : (v : ℕ) → getD pending v 0 ≡ unvisited starts targets [] v
     all v = rw (p .whole) (p .counted .count v ∙ sym (unvisited-all starts targets (p .well-formed) v))
 
-module _ {starts targets parents left order : List ℕ} {s head tail waiting : ℕ} (g : Going starts targets parents left order s head tail waiting) where
+module _ {starts targets parents pending order : List ℕ} {s head tail waiting : ℕ} (g : Going starts targets parents pending order s head tail waiting) where
   pub tail-most : tail ≤ vertices starts
   tail-most = places-below (λ i. getD order i 0) tail (vertices starts) (g .below) (g .apart)
 
-  pub going-lowered : Lowered starts targets left order head
+  pub going-lowered : Lowered starts targets pending order head
   going-lowered = record {
     each = g .each;
     room = omega (arith, g .passed, tail-most, g .room);
@@ -90,13 +92,14 @@ module _ {starts targets parents left order : List ℕ} {s head tail waiting : �
   all v = g .counted .count v ∙ sym (unvisited-all starts targets (g .well-formed) v)
 
   -- a child of a visited vertex has a parent visited
-  pub seen : (i v : ℕ) → i < head → Edge starts targets (getD order i 0) v → getD left v 0 < getD parents v 0
+  pub seen : (i v : ℕ) → i < head → Edge starts targets (getD order i 0) v → getD pending v 0 < getD parents v 0
   seen i v l e = omega (arith, g .lowered v, all v, visited-less starts targets (take head order) (visited i l) e)
 
   -- and the other way round
-  seen-by : (v : ℕ) → getD left v 0 < getD parents v 0 → (i : ℕ) × (i < head) × Edge starts targets (getD order i 0) v
+  seen-by : (v : ℕ) → getD pending v 0 < getD parents v 0 → (i : ℕ) × (i < head) × Edge starts targets (getD order i 0) v
   seen-by v h =
-      let (u, m, e) = less-visited starts targets (take head order) (let less : unvisited starts targets (take head order) v < unvisited starts targets [] v = omega (arith, g .lowered v, all v) in less) in
+      let less : unvisited starts targets (take head order) v < unvisited starts targets [] v = omega (arith, g .lowered v, all v) in
+      let (u, m, e) = less-visited starts targets (take head order) less in
       let (i, l, q) = take-in u order head (omega (arith, g .passed, tail-most, g .room)) m in
       (i, l, rw q e)
 
@@ -148,30 +151,30 @@ module _ {starts targets parents left order : List ℕ} {s head tail waiting : �
             (all-visited (b .matching (getD order i 0) .0 (inside i m)))
 
         -- and none waits
-        child-waits : (i v : ℕ) → i < head → Edge starts targets (getD order i 0) v → waits (getD left v 0) (getD parents v 0) ≡ 0
+        child-waits : (i v : ℕ) → i < head → Edge starts targets (getD order i 0) v → waits (getD pending v 0) (getD parents v 0) ≡ 0
         child-waits i v m e =
             ⊎-elim
-            (λ q. let same : getD order head 0 ≡ v = exit ∙ sym q in waits-none (getD left v 0) (getD parents v 0) (rw same at (g .none-left head later ready)))
+            (λ q. let same : getD order head 0 ≡ v = exit ∙ sym q in waits-none (getD pending v 0) (getD parents v 0) (rw same at (g .none-pending head later ready)))
             (λ place.
             let (j, a, q) = place in
             elim (ℕ-discrete j 0) [
               | yes z ↦ absurd (g .none-back i m (rw (sym q ∙ ap (λ x. getD order x 0) z ∙ g .first) at e))
-              | no k ↦ waits-none (getD left v 0) (getD parents v 0) (rw q at (g .none-left j (omega arith) (omega arith)))
+              | no k ↦ waits-none (getD pending v 0) (getD parents v 0) (rw q at (g .none-pending j (omega arith) (omega arith)))
             ])
             (all-visited (b .matching v .0 (on (inside i (omega arith)) (g .before-exit t b i m) e)))
 
-        none-wait : (v : ℕ) → waits (getD left v 0) (getD parents v 0) ≡ 0
+        none-wait : (v : ℕ) → waits (getD pending v 0) (getD parents v 0) ≡ 0
         none-wait v =
-            elim (decLt (getD left v 0) (getD parents v 0)) [
+            elim (decLt (getD pending v 0) (getD parents v 0)) [
               | yes l ↦ let (i, m, e) = seen-by v l in child-waits i v m e
-              | no n ↦ waits-all (getD left v 0) (getD parents v 0) (omega arith)
+              | no n ↦ waits-all (getD pending v 0) (getD parents v 0) (omega arith)
             ]
 
         exit-alone : Alone head tail waiting
         exit-alone = record {
           later = later;
           last = elim (decLt (head + 1) tail) [ yes l ↦ absurd (only-ready (head + 1) (omega arith) l) | no n ↦ omega arith ];
-          nowhere = g .waited ∙ sum-zero (length left) (λ v. waits (getD left v 0) (getD parents v 0)) (λ v l. none-wait v);
+          nowhere = g .waited ∙ sum-zero (length pending) (λ v. waits (getD pending v 0) (getD parents v 0)) (λ v l. none-wait v);
         }
 
       -- where the search goes on, the ready vertex is not the exit

@@ -1,16 +1,9 @@
 -- The laws of `search`, in the order in which one reads them. Assumes nothing.
--- numbers and lists
-pub mod SumLaws
-pub mod OccurrenceLaws
-pub mod TallyLaws
--- one row is passed
-pub mod WaitLaws
-pub mod WalkLaws
 -- one vertex after another is visited, until the search ends and what it took is given back
 pub mod UnvisitedLaws
 pub mod Going
 pub mod TurnLaws
 pub mod EndLaws
 pub mod UndoLaws
--- what the contract settles
+-- what the contract determines
 pub mod AnswerLaws

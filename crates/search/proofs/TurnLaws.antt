@@ -8,23 +8,26 @@ use native.Mathlib.Decide.{ℕ-discrete, decLt}
 use lib.ListN.{length, getD, take}
 use lib.Seq.{take-length}
 use Rattle.table.specs.Table.{vertices, row, In, Edge}
-use Rattle.bubble.specs.Superbubble.{Bubbloid}
-use Rattle.search.specs.Search.{occurrences}
-use Rattle.search.specs.Steps.{unvisited, Walkable, Walked, Alone}
 use Rattle.table.proofs.RowLaws.{row-below, edges-below}
-use Rattle.search.proofs.OccurrenceLaws.{occurs-in, take-in, take-same, apart-new}
+use Rattle.bubble.specs.Superbubble.{Bubbloid}
+use Rattle.parents.specs.Parents.{occurrences}
+use Rattle.parents.proofs.OccurrenceLaws.{occurs-in}
+use Rattle.parents.proofs.PlaceLaws.{take-in, take-same, apart-new}
+use Rattle.walking.specs.Walking.{Walkable, Walked}
+use Rattle.search.specs.Steps.{unvisited, Alone}
 use Rattle.search.proofs.UnvisitedLaws.{none-unvisited, visit-more}
 use Rattle.search.proofs.Going.{Going, tail-most, not-exit}
 
-module _ {starts targets parents left order : List ℕ} {s head tail waiting : ℕ} (g : Going starts targets parents left order s head tail waiting) (ready : head < tail) (forward : In s (row starts targets (getD order head 0)) → ⊥) where
+module _ {starts targets parents pending order : List ℕ} {s head tail waiting : ℕ}
+    (g : Going starts targets parents pending order s head tail waiting) (ready : head < tail) (forward : In s (row starts targets (getD order head 0)) → ⊥) where
   vertex : getD order head 0 < vertices starts
   vertex = g .below head ready
 
   within : head < length order
   within = omega (arith, tail-most g, g .room)
 
-  -- what is left behind the vertex at the head
-  taken : (v : ℕ) → unvisited starts targets (take (head + 1) order) v + occurrences v (row starts targets (getD order head 0)) ≡ getD left v 0
+  -- what is pending behind the vertex at the head
+  taken : (v : ℕ) → unvisited starts targets (take (head + 1) order) v + occurrences v (row starts targets (getD order head 0)) ≡ getD pending v 0
   taken v =
       let new = apart-new order head within (λ i l q. omega (arith, g .apart i head (omega arith) ready q)) in
       omega (arith, g .lowered v, visit-more starts targets order head within vertex new v)
@@ -38,7 +41,7 @@ module _ {starts targets parents left order : List ℕ} {s head tail waiting : �
             omega (arith, g .apart j head (omega arith) ready q)
       ]
 
-  pub turn-walkable : Walkable (row starts targets (getD order head 0)) parents left order tail waiting
+  pub turn-walkable : Walkable (row starts targets (getD order head 0)) parents pending order tail waiting
   turn-walkable = record {
     rises = g .well-formed .rows-rise (getD order head 0) vertex;
     below = rw (g .each) (row-below starts targets (g .well-formed .targets-below) (getD order head 0));
@@ -51,16 +54,16 @@ module _ {starts targets parents left order : List ℕ} {s head tail waiting : �
     waited = g .waited;
   }
 
-  module _ {left′ order′ : List ℕ} {tail′ waiting′ : ℕ} (reached : Alone head tail waiting → ⊥) (some : length (row starts targets (getD order head 0)) ≢ 0)
-      (w : Walked (row starts targets (getD order head 0)) parents left order tail (length (row starts targets (getD order head 0))) left′ order′ tail′ waiting′) where
-    lower : (v : ℕ) → getD left′ v 0 + occurrences v (row starts targets (getD order head 0)) ≡ getD left v 0
+  module _ {pending′ order′ : List ℕ} {tail′ waiting′ : ℕ} (reached : Alone head tail waiting → ⊥) (some : length (row starts targets (getD order head 0)) ≢ 0)
+      (w : Walked (row starts targets (getD order head 0)) parents pending order tail (length (row starts targets (getD order head 0))) pending′ order′ tail′ waiting′) where
+    lower : (v : ℕ) → getD pending′ v 0 + occurrences v (row starts targets (getD order head 0)) ≡ getD pending v 0
     lower v = rw (take-length (row starts targets (getD order head 0))) at (w .lowered v)
 
-    lowered : (v : ℕ) → getD left′ v 0 ≡ unvisited starts targets (take (head + 1) order′) v
+    lowered : (v : ℕ) → getD pending′ v 0 ≡ unvisited starts targets (take (head + 1) order′) v
     lowered v =
         let same : take (head + 1) order ≡ take (head + 1) order′ =
         take-same order order′ (head + 1) (omega (arith, within)) (omega (arith, within, w .same-order)) (λ i l. sym (w .kept i (omega arith))) in
-        rw same at (let q : getD left′ v 0 ≡ unvisited starts targets (take (head + 1) order) v = omega (arith, lower v, taken v) in q)
+        rw same at (let q : getD pending′ v 0 ≡ unvisited starts targets (take (head + 1) order) v = omega (arith, lower v, taken v) in q)
 
     -- a new entry is a child of the vertex at the head
     edge : (i : ℕ) → tail ≤ i → i < tail′ → Edge starts targets (getD order head 0) (getD order′ i 0)
@@ -73,11 +76,11 @@ module _ {starts targets parents left order : List ℕ} {s head tail waiting : �
           | no n ↦ edges-below (g .well-formed) _ _ (edge i (omega arith) l) .1
         ]
 
-    none-left : (i : ℕ) → 0 < i → i < tail′ → getD left′ (getD order′ i 0) 0 ≡ 0
-    none-left i h l =
+    none-pending : (i : ℕ) → 0 < i → i < tail′ → getD pending′ (getD order′ i 0) 0 ≡ 0
+    none-pending i h l =
         elim (decLt i tail) [
-          | yes m ↦ rw (w .kept i m) (omega (arith, lower (getD order i 0), g .none-left i h m))
-          | no n ↦ w .none-left i (omega arith) l
+          | yes m ↦ rw (w .kept i m) (omega (arith, lower (getD order i 0), g .none-pending i h m))
+          | no n ↦ w .none-pending i (omega arith) l
         ]
 
     parent : (i : ℕ) → 0 < i → i < tail′ → (u : ℕ) × Edge starts targets u (getD order′ i 0)
@@ -94,12 +97,12 @@ module _ {starts targets parents left order : List ℕ} {s head tail waiting : �
               let (j, a, b, q) = g .behind i u h m (rw (w .kept i m) at e) in
               (j, a, omega arith, w .kept j (omega arith) ∙ q)
           | no n ↦
-              let inside = none-unvisited starts targets (take (head + 1) order′) (sym (lowered (getD order′ i 0)) ∙ w .none-left i (omega arith) l) e in
+              let inside = none-unvisited starts targets (take (head + 1) order′) (sym (lowered (getD order′ i 0)) ∙ w .none-pending i (omega arith) l) e in
               let (j, b, q) = take-in u order′ (head + 1) (omega (arith, within, w .same-order)) inside in
               (j, omega arith, b, q)
         ]
 
-    whole : (u v : ℕ) → getD left′ v 0 ≡ 0 → Edge starts targets u v → (i : ℕ) × (i < tail′) × (getD order′ i 0 ≡ v)
+    whole : (u v : ℕ) → getD pending′ v 0 ≡ 0 → Edge starts targets u v → (i : ℕ) × (i < tail′) × (getD order′ i 0 ≡ v)
     whole u v q e =
         elim (decLt 0 (occurrences v (row starts targets (getD order head 0)))) [
           | yes m ↦ w .whole v (rw (take-length (row starts targets (getD order head 0))) (occurs-in v (row starts targets (getD order head 0)) m)) q
@@ -130,19 +133,19 @@ module _ {starts targets parents left order : List ℕ} {s head tail waiting : �
           | no n ↦ g .before-exit t b i (omega arith) (sym (w .kept i (omega arith)) ∙ q)
         ]
 
-    pub turn-more : Going starts targets parents left′ order′ s (head + 1) tail′ waiting′
+    pub turn-more : Going starts targets parents pending′ order′ s (head + 1) tail′ waiting′
     turn-more = record {
       well-formed = g .well-formed;
       counted = g .counted;
       passed = omega (arith, w .longer);
       some = omega (arith, w .longer);
       room = rw (w .same-order) (g .room);
-      each = w .same-left ∙ g .each;
+      each = w .same-pending ∙ g .each;
       first = w .kept 0 (g .some) ∙ g .first;
       below = below;
       apart = w .apart;
       lowered = lowered;
-      none-left = none-left;
+      none-pending = none-pending;
       parent = parent;
       behind = behind;
       whole = whole;

@@ -6,24 +6,25 @@ use native.Mathlib.Omega.{arith}
 use lib.ListN.{length, getD, take}
 use lib.Seq.{ext-getD}
 use Rattle.table.specs.Table.{vertices, row, WellFormed}
-use Rattle.search.specs.Search.{occurrences, Parents}
-use Rattle.search.specs.Steps.{unvisited, Tallying, Tallied, Lowered}
 use Rattle.table.proofs.RowLaws.{row-below}
-use Rattle.search.proofs.OccurrenceLaws.{occurrences-most, apart-new}
+use Rattle.parents.specs.Parents.{occurrences, Parents, Tallying, Tallied}
+use Rattle.parents.proofs.OccurrenceLaws.{occurrences-most}
+use Rattle.parents.proofs.PlaceLaws.{apart-new}
+use Rattle.search.specs.Steps.{unvisited, Lowered}
 use Rattle.search.proofs.UnvisitedLaws.{visit-more, unvisited-least, unvisited-all}
 
-module _ {starts targets left order : List ℕ} (k : ℕ) (well : WellFormed starts targets) (w : Lowered starts targets left order (k + 1)) where
+module _ {starts targets pending order : List ℕ} (k : ℕ) (well : WellFormed starts targets) (w : Lowered starts targets pending order (k + 1)) where
   last-vertex : getD order k 0 < vertices starts
   last-vertex = w .below k (omega arith)
 
   -- what the row took
-  taken : (v : ℕ) → getD left v 0 + occurrences v (row starts targets (getD order k 0)) ≡ unvisited starts targets (take k order) v
+  taken : (v : ℕ) → getD pending v 0 + occurrences v (row starts targets (getD order k 0)) ≡ unvisited starts targets (take k order) v
   taken v =
       let within : k < length order = omega (arith, w .room) in
       let new = apart-new order k within (λ i l q. omega (arith, w .apart i k (omega arith) (omega arith) q)) in
       omega (arith, w .counted v, visit-more starts targets order k within last-vertex new v)
 
-  pub undo-tallying : Tallying (row starts targets (getD order k 0)) left
+  pub undo-tallying : Tallying (row starts targets (getD order k 0)) pending
   undo-tallying = record {
     below = rw (w .each) (row-below starts targets (well .targets-below) (getD order k 0));
     fits = λ v. omega (
@@ -36,7 +37,7 @@ module _ {starts targets left order : List ℕ} (k : ℕ) (well : WellFormed sta
     );
   }
 
-  pub undo-more : {left′ : List ℕ} → Tallied (row starts targets (getD order k 0)) left left′ → Lowered starts targets left′ order k
+  pub undo-more : {pending′ : List ℕ} → Tallied (row starts targets (getD order k 0)) pending pending′ → Lowered starts targets pending′ order k
   undo-more t = record {
     each = t .same ∙ w .each;
     room = omega (arith, w .room);
@@ -46,6 +47,6 @@ module _ {starts targets left order : List ℕ} (k : ℕ) (well : WellFormed sta
   }
 
 -- where nothing is visited, the parents are whole
-pub undone : {starts targets parents left order : List ℕ} → WellFormed starts targets → Parents (vertices starts) targets parents → Lowered starts targets left order 0 → left ≡ parents
-undone {starts} {targets} {parents} {left} well counted w =
-    ext-getD 0 left parents (w .each ∙ sym (counted .each)) (λ v l. w .counted v ∙ unvisited-all starts targets well v ∙ sym (counted .count v))
+pub undone : {starts targets parents pending order : List ℕ} → WellFormed starts targets → Parents (vertices starts) targets parents → Lowered starts targets pending order 0 → pending ≡ parents
+undone {starts} {targets} {parents} {pending} well counted w =
+    ext-getD 0 pending parents (w .each ∙ sym (counted .each)) (λ v l. w .counted v ∙ unvisited-all starts targets well v ∙ sym (counted .count v))

@@ -1,5 +1,5 @@
 -- Laws of how many edges lead to a vertex from vertices that are not visited. Assumes nothing.
-use Prim.Native.Nat.{ℕ, zero, suc, _+_, _-_, _≤_, _<_}
+use Prim.Native.Nat.{ℕ, zero, suc, _+_, _≤_, _<_}
 use mathlib.Core.Path.{_≡_, refl, sym, _∙_, ap}
 use mathlib.Core.Logic.{_≢_}
 use mathlib.Core.List.{List, []}
@@ -10,10 +10,11 @@ use lib.ListN.{length, getD, take}
 use lib.Seq.{take-length}
 use Rattle.table.specs.Table.{vertices, row, In, Edge, WellFormed}
 use Rattle.table.proofs.RowLaws.{targets-to-next}
-use Rattle.search.specs.Search.{occurrences}
-use Rattle.search.specs.Steps.{sum, unless, unvisited}
-use Rattle.search.proofs.SumLaws.{sum-change, sum-term, sum-least, sum-some, sum-less, less-sum}
-use Rattle.search.proofs.OccurrenceLaws.{same-yes, same-no, occurrences-append, occurrences-more, in-occurs, occurs-in}
+use Rattle.parents.specs.Parents.{occurrences}
+use Rattle.parents.proofs.OccurrenceLaws.{same-yes, same-no, occurrences-append, occurrences-more, in-occurs, occurs-in}
+use Rattle.walking.specs.Walking.{sum-below}
+use Rattle.walking.proofs.SumLaws.{sum-change, sum-term, sum-least, sum-some, sum-less, less-sum}
+use Rattle.search.specs.Steps.{unless, unvisited}
 
 unless-none : (x y : ℕ) → x ≡ 0 → unless x y ≡ y
 unless-none zero y q = refl
@@ -29,7 +30,7 @@ unless-least (suc x) y = omega arith
 
 module _ (starts targets : List ℕ) where
   edge-occurs : {u v : ℕ} → Edge starts targets u v → 0 < occurrences v (row starts targets u)
-  edge-occurs {u} {v} e = in-occurs v (row starts targets u) (e .listed)
+  edge-occurs e = in-occurs (e .listed)
 
   occurs-edge : {u v : ℕ} → u < vertices starts → 0 < occurrences v (row starts targets u) → Edge starts targets u v
   occurs-edge {u} {v} l h = record { vertex = l; listed = occurs-in v (row starts targets u) h }
@@ -52,7 +53,7 @@ module _ (starts targets : List ℕ) where
       let (u, l, m) = sum-some (vertices starts) term h in (
         u,
         occurs-edge l (omega (arith, unless-least (occurrences u visited) (occurrences v (row starts targets u)))),
-        λ i. omega (arith, unless-some (occurrences u visited) (occurrences v (row starts targets u)) (in-occurs u visited i)),
+        λ i. omega (arith, unless-some (occurrences u visited) (occurrences v (row starts targets u)) (in-occurs i)),
       )
 
   pub unvisited-least : (visited : List ℕ) (v : ℕ) → unvisited starts targets visited v ≤ unvisited starts targets [] v
@@ -65,7 +66,7 @@ module _ (starts targets : List ℕ) where
   visited-less visited {u} {v} i e =
       less-sum (vertices starts) (λ x. unless (occurrences x visited) (occurrences v (row starts targets x))) (λ x. occurrences v (row starts targets x)) u (e .vertex)
       (λ x. unless-least (occurrences x visited) (occurrences v (row starts targets x)))
-      (omega (arith, unless-some (occurrences u visited) (occurrences v (row starts targets u)) (in-occurs u visited i), edge-occurs e))
+      (omega (arith, unless-some (occurrences u visited) (occurrences v (row starts targets u)) (in-occurs i), edge-occurs e))
 
   -- a difference is made by a visited parent
   pub less-visited : (visited : List ℕ) {v : ℕ} → unvisited starts targets visited v < unvisited starts targets [] v → (u : ℕ) × In u visited × Edge starts targets u v
@@ -83,7 +84,9 @@ module _ (starts targets : List ℕ) where
       let u = getD order k 0 in
       let term : List ℕ → ℕ → ℕ = λ visited x. unless (occurrences x visited) (occurrences v (row starts targets x)) in
       let others : (x : ℕ) → x ≢ u → term (take (k + 1) order) x ≡ term (take k order) x =
-      λ x n. ap (λ y. unless y (occurrences v (row starts targets x))) (let o : occurrences x (take (k + 1) order) ≡ occurrences x (take k order) = omega (arith, occurrences-more x order k h, same-no u x (λ e. n (sym e))) in o) in
+      λ x n.
+      let o : occurrences x (take (k + 1) order) ≡ occurrences x (take k order) = omega (arith, occurrences-more x order k h, same-no u x (λ e. n (sym e))) in
+      ap (λ y. unless y (occurrences v (row starts targets x))) o in
       let before : term (take k order) u ≡ occurrences v (row starts targets u) = unless-none (occurrences u (take k order)) (occurrences v (row starts targets u)) q in
       let after : term (take (k + 1) order) u ≡ 0 =
       unless-some (occurrences u (take (k + 1) order)) (occurrences v (row starts targets u)) (omega (arith, occurrences-more u order k h, same-yes u u refl)) in
@@ -91,7 +94,7 @@ module _ (starts targets : List ℕ) where
 
   module _ (well : WellFormed starts targets) where
     -- the rows of the first k vertices are the targets up to start k
-    rows-sum : (v k : ℕ) → k ≤ vertices starts → sum k (λ u. occurrences v (row starts targets u)) ≡ occurrences v (take (getD starts k 0) targets)
+    rows-sum : (v k : ℕ) → k ≤ vertices starts → sum-below k (λ u. occurrences v (row starts targets u)) ≡ occurrences v (take (getD starts k 0) targets)
     rows-sum v zero h = rw (well .starts-fit .begins)
     rows-sum v (suc k) h =
         let here : k < vertices starts = omega arith in

@@ -1,11 +1,6 @@
 // The search from an entrance to its exit, which list, judge and fold share.
-mod counts;
-mod rows;
 mod visits;
 
-pub use counts::clear;
-pub use counts::copy;
-pub use counts::count_parents;
 pub use visits::search;
 
 // What the search finds: the exit, and how many vertices were visited on the way to it.

@@ -5,9 +5,9 @@ ghost use Rattle.table.specs.Verdict.{Says};
 ghost use Rattle.search.specs.Search.{Searchable, Sought};
 ghost use Rattle.search.specs.Steps.{Alone, Lowered, Ran};
 use crate::Exit;
-use crate::counts::tally;
-use crate::rows::Front;
-use crate::rows::walk;
+use parents::tally;
+use walking::Front;
+use walking::walk;
 
 // What a search found, and how many vertices it visited.
 pub struct Run {
@@ -37,12 +37,16 @@ fn visit(
     starts: &[u32],
     targets: &[u32],
     parents: &[u32],
-    left: &mut [u32],
+    pending: &mut [u32],
     order: &mut [u32],
     s: u32,
 ) -> Run
-    requires { ⌜ Searchable (now starts) (now targets) (now parents) (now left) (now order) s ⌝ }
-    ensures { λ r. ⌜ Ran (now (starts .entry)) (now (targets .entry)) (now (left .exit)) (now (order .entry)) (now (order .exit)) s (r .exit) (r .visited) ⌝ }
+    requires { ⌜ Searchable (now starts) (now targets) (now parents) (now pending) (now order) s ⌝ }
+    ensures { λ r.
+        ⌜
+        Ran (now (starts .entry)) (now (targets .entry)) (now (pending .exit)) (now (order .entry)) (now (order .exit)) s
+        (r .exit) (r .visited)
+        ⌝ }
 {
     order[0] = s;
     let mut head = 0;
@@ -71,7 +75,7 @@ fn visit(
                 visited: head,
             };
         }
-        front = walk(row, parents, left, order, front);
+        front = walk(row, parents, pending, order, front);
         head += 1;
     }
     Run {
@@ -81,32 +85,36 @@ fn visit(
 }
 
 // Gives back what the rows of the visited vertices took, the last first.
-fn undo(starts: &[u32], targets: &[u32], left: &mut [u32], order: &[u32], visited: usize)
+fn undo(starts: &[u32], targets: &[u32], pending: &mut [u32], order: &[u32], visited: usize)
     requires { ⌜ WellFormed (now starts) (now targets) ⌝ }
-    requires { ⌜ Lowered (now starts) (now targets) (now left) (now order) visited ⌝ }
-    ensures { λ r. ⌜ Lowered (now (starts .entry)) (now (targets .entry)) (now (left .exit)) (now (order .entry)) 0 ⌝ }
+    requires { ⌜ Lowered (now starts) (now targets) (now pending) (now order) visited ⌝ }
+    ensures { λ r. ⌜ Lowered (now (starts .entry)) (now (targets .entry)) (now (pending .exit)) (now (order .entry)) 0 ⌝ }
 {
     let mut k = visited;
     while k > 0 {
         k -= 1;
         let v = order[k] as usize;
-        tally(table::row(starts, targets, v), left);
+        tally(table::row(starts, targets, v), pending);
     }
 }
 
-// From an entrance to its exit, if it has one. What is left of the parents is whole again at the end.
+// From an entrance to its exit, if it has one. The pending parents are all the parents again at the end.
 pub fn search(
     starts: &[u32],
     targets: &[u32],
     parents: &[u32],
-    left: &mut [u32],
+    pending: &mut [u32],
     order: &mut [u32],
     s: u32,
 ) -> Exit
-    requires { ⌜ Searchable (now starts) (now targets) (now parents) (now left) (now order) s ⌝ }
-    ensures { λ r. ⌜ Sought (now (starts .entry)) (now (targets .entry)) (now (left .entry)) (now (order .entry)) (now (left .exit)) (now (order .exit)) s r ⌝ }
+    requires { ⌜ Searchable (now starts) (now targets) (now parents) (now pending) (now order) s ⌝ }
+    ensures { λ r.
+        ⌜
+        Sought (now (starts .entry)) (now (targets .entry)) (now (pending .entry)) (now (order .entry)) (now (pending .exit))
+        (now (order .exit)) s r
+        ⌝ }
 {
-    let run = visit(starts, targets, parents, left, order, s);
-    undo(starts, targets, left, order, run.visited);
+    let run = visit(starts, targets, parents, pending, order, s);
+    undo(starts, targets, pending, order, run.visited);
     run.exit
 }

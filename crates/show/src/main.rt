@@ -1,12 +1,10 @@
 // Prints the table that stands in the image on standard input: `table N M`, then for each vertex its number, its count and its successors; or `refused N`.
-
-// One byte more than the largest image is read, so that a longer stream gets the number that its header earns.
-const MOST: usize = image::Header::LARGEST + 1;
+use layout::Header;
 
 // Reads the image on standard input and prints its table.
 fn show_input() {
-    let mut stream = [0u8; MOST];
-    let input = files::read(libc::STDIN_FILENO, &mut stream, MOST);
+    let mut stream = [0u8; Header::STREAM];
+    let input = files::read(libc::STDIN_FILENO, &mut stream, Header::STREAM);
     if input.error != 0 {
         messages::unread_input(input.error);
         return;

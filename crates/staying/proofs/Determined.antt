@@ -5,15 +5,15 @@ use mathlib.Core.List.{List, _++_}
 use native.Mathlib.Decide.{decLt}
 use native.Mathlib.Omega.{arith}
 use lib.ListN.{length, getD, drop}
-use Rattle.table.specs.Table.{vertices, Edge}
-use Rattle.rule.proofs.SameTable.{same-table}
+use Rattle.table.specs.Table.{Rows, size, edges}
+use Rattle.rule.proofs.SameTable.{same-rows}
 use Rattle.staying.specs.Staying.{EdgesStay, TableWritten}
 
-module _ {starts targets next : List ℕ} where
-  edges-same : {starts₁ targets₁ starts₂ targets₂ : List ℕ} → length starts₁ ≡ length starts → EdgesStay starts targets next starts₁ targets₁
-      → EdgesStay starts targets next starts₂ targets₂ → (u v : ℕ) → Edge starts₁ targets₁ u v → Edge starts₂ targets₂ u v
+module _ {rows : Rows} {next : List ℕ} where
+  edges-same : {result₁ result₂ : Rows} → length (result₁ .starts) ≡ length (rows .starts) → EdgesStay rows next result₁ → EdgesStay rows next result₂
+      → (u v : ℕ) → edges result₁ u v → edges result₂ u v
   edges-same many a b u v e =
-      let n = vertices starts in
+      let n = size rows in
       let h : u < n = omega (arith, e .vertex) in
       elim (decLt n (getD next u 0)) [
         | yes above ↦ absurd (a .none u above v e)
@@ -24,15 +24,12 @@ module _ {starts targets next : List ℕ} where
             ]
       ]
 
-  pub write-table-determined : {out-starts out-targets out-starts₁ out-targets₁ out-starts₂ out-targets₂ : List ℕ} {r₁ r₂ : ℕ}
-      → TableWritten starts targets next out-starts out-targets out-starts₁ out-targets₁ r₁
-      → TableWritten starts targets next out-starts out-targets out-starts₂ out-targets₂ r₂
-      → (out-starts₁ ≡ out-starts₂) × (out-targets₁ ≡ out-targets₂) × (r₁ ≡ r₂)
-  write-table-determined {out-starts} {out-targets} a b =
-      let (same-starts, same-targets) = same-table (a .well-formed) (b .well-formed) (a .as-many ∙ sym (b .as-many))
-      (λ u v. (edges-same (a .as-many) (a .edges) (b .edges) u v, edges-same (b .as-many) (b .edges) (a .edges) u v)) in
-      let same-count = sym (a .edge-count) ∙ ap length same-targets ∙ b .edge-count in (
-        a .starts-front ∙ ap (λ (l : List ℕ). l ++ drop (vertices starts + 1) out-starts) same-starts ∙ sym (b .starts-front),
-        a .targets-front ∙ ap₂ (λ (l : List ℕ) (k : ℕ). l ++ drop k out-targets) same-targets same-count ∙ sym (b .targets-front),
-        same-count,
-      )
+  pub write-table-determined : {lent after₁ after₂ : Rows} {r₁ r₂ : ℕ} → TableWritten rows next lent after₁ r₁ → TableWritten rows next lent after₂ r₂
+      → (after₁ ≡ after₂) × (r₁ ≡ r₂)
+  write-table-determined {lent} a b =
+      let same = same-rows (a .well-formed) (b .well-formed) (a .as-many ∙ sym (b .as-many))
+      (λ u v. (edges-same (a .as-many) (a .edges-stay) (b .edges-stay) u v, edges-same (b .as-many) (b .edges-stay) (a .edges-stay) u v)) in
+      let count = sym (a .edge-count) ∙ ap (λ (x : Rows). length (x .targets)) same ∙ b .edge-count in
+      let starts = a .starts-front ∙ ap (λ (x : Rows). x .starts ++ drop (size rows + 1) (lent .starts)) same ∙ sym (b .starts-front) in
+      let targets = a .targets-front ∙ ap₂ (λ (x : Rows) (k : ℕ). x .targets ++ drop k (lent .targets)) same count ∙ sym (b .targets-front) in
+      (λ i. record { starts = starts i; targets = targets i }, count)

@@ -9,6 +9,7 @@ use native.Mathlib.Numerals.{add-one}
 use native.Mathlib.Omega.{arith}
 use lib.ListN.{length, getD, take, drop, length-append, length-drop, List·getD-append}
 use lib.Seq.{getD-at, getD-append-add, take-length, drop-at, take-append-le, drop-append-le}
+use Rattle.table.specs.Limits.{vertex-limit, edge-limit}
 use Rattle.table.specs.Table.{vertices, row, In, Edge, Rises, Below, StartsFit, WellFormed}
 
 -- the first n rows, one after the other
@@ -103,7 +104,7 @@ module _ (rows : ℕ → List ℕ) where
           ends = rw vertices-laid (begins-at (suc n) n (omega arith));
         }
 
-    pub well-formed-laid : n ≤ 2048 → length (laid rows n) ≤ 8192 → ((v : ℕ) → v < n → Below n (rows v)) → ((v : ℕ) → v < n → Rises (rows v))
+    pub well-formed-laid : n ≤ vertex-limit → length (laid rows n) ≤ edge-limit → ((v : ℕ) → v < n → Below n (rows v)) → ((v : ℕ) → v < n → Rises (rows v))
         → WellFormed (begins rows (suc n)) (laid rows n)
     well-formed-laid most-vertices most-edges below rises =
         record {

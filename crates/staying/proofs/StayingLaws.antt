@@ -13,16 +13,17 @@ use lib.ListN.{length, take, drop, set}
 use lib.Seq.{set-split, append-snoc, paste-zero}
 use borrow.Author.Tests.{lt-ltb, le-ltb}
 use Rattle.table.specs.Table.{In, Rises, Below}
+use Rattle.rule.specs.Next.{whole-row}
 use Rattle.staying.specs.Staying.{chosen, staying, Put}
 
 module _ (n next : ℕ) (row : List ℕ) where
-  pub stays-none : n < next → staying n next row ≡ []
+  pub stays-none : whole-row n < next → staying n next row ≡ []
   stays-none h = ap (λ (above : Bool). chosen above (ltb next n) next row) (lt-ltb n next h)
 
   pub stays-one : next < n → staying n next row ≡ next ∷ []
   stays-one h = ap₂ (λ (above below : Bool). chosen above below next row) (le-ltb n next (omega arith)) (lt-ltb next n h)
 
-  pub stays-whole : next ≡ n → staying n next row ≡ row
+  pub stays-whole : next ≡ whole-row n → staying n next row ≡ row
   stays-whole e = ap₂ (λ (above below : Bool). chosen above below next row) (le-ltb n next (omega arith)) (le-ltb next n (omega arith))
 
   -- what holds of no edge, of the one to next and of the row holds of what stays

@@ -1,4 +1,5 @@
-// The new table of a fold, row by row: of each row all edges stay, only one, or none.
+// The new table of a fold, row by row: of each row all edges stay, only one, or none. Which of them says one number a vertex, in `next`: n, which is no
+// vertex's number, for the whole row; a vertex for the edge that leads to it; and a number above n, as n + 1, for none.
 ghost use Prim.Native.Nat.{_+_, _≤_};
 ghost use lib.ListN.{length};
 ghost use Rattle.staying.specs.Staying.{staying, Put, TableReady, TableWritten};
@@ -21,10 +22,11 @@ fn write_row(row: &[u32], next: u32, n: usize, out: &mut [u32], at: usize) -> us
     requires { ⌜ at + length (staying n next (now row)) ≤ length (now out) ⌝ }
     ensures { λ r. ⌜ Put (staying n next (now (row .entry))) (now (out .entry)) (now (out .exit)) at r ⌝ }
 {
-    if next as usize > n {
+    let whole = n;
+    if next as usize > whole {
         return at;
     }
-    if (next as usize) < n {
+    if (next as usize) < whole {
         out[at] = next;
         return at + 1;
     }
@@ -39,17 +41,19 @@ pub fn write_table(
     starts2: &mut [u32],
     targets2: &mut [u32],
 ) -> usize
-    requires { ⌜ TableReady (now starts) (now targets) (now next) (now starts2) (now targets2) ⌝ }
+    requires { ⌜
+        TableReady
+        (record { starts = now starts; targets = now targets })
+        (now next)
+        (record { starts = now starts2; targets = now targets2 })
+        ⌝ }
     ensures { λ r.
         ⌜
         TableWritten
-        (now (starts .entry))
-        (now (targets .entry))
+        (record { starts = now (starts .entry); targets = now (targets .entry) })
         (now (next .entry))
-        (now (starts2 .entry))
-        (now (targets2 .entry))
-        (now (starts2 .exit))
-        (now (targets2 .exit))
+        (record { starts = now (starts2 .entry); targets = now (targets2 .entry) })
+        (record { starts = now (starts2 .exit); targets = now (targets2 .exit) })
         r
         ⌝ }
 {

@@ -1,27 +1,25 @@
 -- A table is given 0 exactly if it is well-formed. Assumes nothing.
-use Prim.Native.Nat.{ℕ}
-use mathlib.Core.List.{List}
 use native.Mathlib.Omega.{arith}
-use Rattle.table.specs.Verdict.{Verdict}
-use Rattle.table.specs.Table.{WellFormed, Counted}
+use Rattle.table.specs.Verdict.{Verdict, AllMet}
+use Rattle.table.specs.Table.{Rows, Table, Sound, SoundTable}
 use Rattle.table.specs.Numbers.{tableDemands, countDemands, countedDemands}
-use Rattle.table.proofs.VerdictLaws.{AllMet, accepted, accepts, first-met}
+use Rattle.table.proofs.VerdictLaws.{accepted, accepts, first-met}
 
 -- 0 of `tableDemands`: 1 to 5 are met
-pub table-met : (starts targets : List ℕ) → Verdict (tableDemands starts targets) 0 → AllMet (tableDemands starts targets)
-table-met starts targets v =
-    accepted (tableDemands starts targets)
+pub table-met : (rows : Rows) → Verdict (tableDemands rows) 0 → AllMet (tableDemands rows)
+table-met rows v =
+    accepted (tableDemands rows)
     ((λ e. omega arith), ((λ e. omega arith), ((λ e. omega arith), ((λ e. omega arith), ((λ e. omega arith), tt))))) v
 
 -- 0 of `countedDemands`: 1 to 7 are met
-pub counted-met : (starts targets counts : List ℕ) → Verdict (countedDemands starts targets counts) 0 → AllMet (countedDemands starts targets counts)
-counted-met starts targets counts v =
-    accepted (countedDemands starts targets counts)
+pub counted-met : (table : Table) → Verdict (countedDemands table) 0 → AllMet (countedDemands table)
+counted-met table v =
+    accepted (countedDemands table)
     ((λ e. omega arith), ((λ e. omega arith), ((λ e. omega arith), ((λ e. omega arith), ((λ e. omega arith), ((λ e. omega arith), ((λ e. omega arith), tt))))))) v
 
 -- starts and targets that meet 1 to 5 are well-formed
-table-well-formed : (starts targets : List ℕ) → AllMet (tableDemands starts targets) → WellFormed starts targets
-table-well-formed starts targets met =
+table-well-formed : (rows : Rows) → AllMet (tableDemands rows) → Sound rows
+table-well-formed rows met =
     record {
       some = met .0 .0;
       most-vertices = met .0 .1;
@@ -32,36 +30,36 @@ table-well-formed starts targets met =
     }
 
 -- starts and targets that are given 0 are well-formed
-pub well-formed : (starts targets : List ℕ) → Verdict (tableDemands starts targets) 0 → WellFormed starts targets
-well-formed starts targets v = table-well-formed starts targets (table-met starts targets v)
+pub well-formed : (rows : Rows) → Verdict (tableDemands rows) 0 → Sound rows
+well-formed rows v = table-well-formed rows (table-met rows v)
 
 -- and well-formed ones are given 0
-pub well-formed-accepted : (starts targets : List ℕ) → WellFormed starts targets → Verdict (tableDemands starts targets) 0
-well-formed-accepted starts targets ok =
-    accepts (tableDemands starts targets)
+pub well-formed-accepted : (rows : Rows) → Sound rows → Verdict (tableDemands rows) 0
+well-formed-accepted rows ok =
+    accepts (tableDemands rows)
     ((ok .some, ok .most-vertices), (ok .most-edges, (ok .starts-fit, (ok .targets-below, (ok .rows-rise, tt)))))
 
 -- starts, targets and counts that meet 1 to 7 are well-formed
-pub met-counted : (starts targets counts : List ℕ) → AllMet (countedDemands starts targets counts) → Counted starts targets counts
-met-counted starts targets counts met =
+pub met-counted : (table : Table) → AllMet (countedDemands table) → SoundTable table
+met-counted table met =
     record {
-      well-formed = table-well-formed starts targets (first-met (tableDemands starts targets) (countDemands starts counts) met);
+      well-formed = table-well-formed (table .rows) (first-met (tableDemands (table .rows)) (countDemands table) met);
       count-each = met .1 .1 .1 .1 .1 .0;
       sum-fits = met .1 .1 .1 .1 .1 .1 .0;
     }
 
 -- and well-formed ones meet them
-pub counted-meets : (starts targets counts : List ℕ) → Counted starts targets counts → AllMet (countedDemands starts targets counts)
-counted-meets starts targets counts ok =
-    let table = ok .well-formed in (
-      (table .some, table .most-vertices),
-      (table .most-edges, (table .starts-fit, (table .targets-below, (table .rows-rise, (ok .count-each, (ok .sum-fits, tt)))))),
+pub counted-meets : (table : Table) → SoundTable table → AllMet (countedDemands table)
+counted-meets table ok =
+    let rows = ok .well-formed in (
+      (rows .some, rows .most-vertices),
+      (rows .most-edges, (rows .starts-fit, (rows .targets-below, (rows .rows-rise, (ok .count-each, (ok .sum-fits, tt)))))),
     )
 
 -- starts, targets and counts that are given 0 are well-formed
-pub counted : (starts targets counts : List ℕ) → Verdict (countedDemands starts targets counts) 0 → Counted starts targets counts
-counted starts targets counts v = met-counted starts targets counts (counted-met starts targets counts v)
+pub counted : (table : Table) → Verdict (countedDemands table) 0 → SoundTable table
+counted table v = met-counted table (counted-met table v)
 
 -- and well-formed ones are given 0
-pub counted-accepted : (starts targets counts : List ℕ) → Counted starts targets counts → Verdict (countedDemands starts targets counts) 0
-counted-accepted starts targets counts ok = accepts (countedDemands starts targets counts) (counted-meets starts targets counts ok)
+pub counted-accepted : (table : Table) → SoundTable table → Verdict (countedDemands table) 0
+counted-accepted table ok = accepts (countedDemands table) (counted-meets table ok)

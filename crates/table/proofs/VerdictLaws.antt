@@ -5,7 +5,7 @@ use mathlib.Core.Logic.{inl, inr}
 use mathlib.Core.List.{List, [], _∷_, _++_}
 use mathlib.Core.Bool.{Bool, true, false, not}
 use native.Mathlib.Omega.{arith}
-use Rattle.table.specs.Verdict.{Demand, Verdict, Says}
+use Rattle.table.specs.Verdict.{Demand, Verdict, AllMet, NeverZero, Says}
 
 -- a test that was answered with no
 pub says-no : (P : Type 0) (b : Bool) → Says b P → not b ≡ true → P → ⊥
@@ -32,18 +32,8 @@ verdict-unique (d ∷ rest) r r′ (inl v) (inr v′) = absurd (v .0 (v′ .0))
 verdict-unique (d ∷ rest) r r′ (inr v) (inl v′) = absurd (v′ .0 (v .0))
 verdict-unique (d ∷ rest) r r′ (inr v) (inr v′) = verdict-unique rest r r′ (v .1) (v′ .1)
 
--- no demand of the list has the number 0, which says that all are met
-abbrev pub Numbered : List Demand → Type 0
-Numbered [] = Unit {0}
-Numbered (d ∷ rest) = (d .number ≡ 0 → ⊥) × Numbered rest
-
--- each demand of the list is met
-abbrev pub AllMet : List Demand → Type 0
-AllMet [] = Unit {0}
-AllMet (d ∷ rest) = d .met × AllMet rest
-
 -- the number 0 says that each demand is met
-pub accepted : (demands : List Demand) → Numbered demands → Verdict demands 0 → AllMet demands
+pub accepted : (demands : List Demand) → NeverZero demands → Verdict demands 0 → AllMet demands
 accepted [] n v = tt
 accepted (d ∷ rest) n (inl v) = absurd (n .0 (sym (v .1)))
 accepted (d ∷ rest) n (inr v) = (v .0, accepted rest (n .1) (v .1))

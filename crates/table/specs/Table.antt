@@ -1,8 +1,10 @@
--- A graph table in the words of document 01: vertices, rows, edges, what is well-formed, and the sum of the counts. Starts, targets and counts are the lists of the lent slices. Assumes nothing.
+-- A graph table in the words of docs/RULES.md, The table: vertices, rows, edges, what is well-formed, and the sum of the counts.
+-- Starts, targets and counts are the lists of the slices handed in. Assumes nothing.
 use Prim.Native.Nat.{ℕ, _+_, _-_, _≤_, _<_}
 use mathlib.Core.Path.{_≡_}
 use mathlib.Core.List.{List, [], _∷_}
 use lib.ListN.{length, getD, take, drop}
+use Rattle.table.specs.Limits.{start-limit, edge-limit, read-limit}
 
 -- n: the vertices are 0 to n-1
 abbrev pub vertices : List ℕ → ℕ
@@ -50,8 +52,8 @@ RowsRise starts targets = (v : ℕ) → v < vertices starts → Rises (row start
 -- a well-formed table without its counts, as list and judge take it
 pub record WellFormed (starts targets : List ℕ) : Type 0 where
   pub some : 0 < length starts
-  pub most-vertices : length starts ≤ 2049
-  pub most-edges : length targets ≤ 8192
+  pub most-vertices : length starts ≤ start-limit
+  pub most-edges : length targets ≤ edge-limit
   pub starts-fit : StartsFit starts (length targets)
   pub targets-below : Below (vertices starts) targets
   pub rows-rise : RowsRise starts targets
@@ -65,4 +67,32 @@ countSum (x ∷ xs) = x + countSum xs
 pub record Counted (starts targets counts : List ℕ) : Type 0 where
   pub well-formed : WellFormed starts targets
   pub count-each : length counts ≡ vertices starts
-  pub sum-fits : countSum counts ≤ 1099511627775
+  pub sum-fits : countSum counts ≤ read-limit
+
+-- ---- The same by named parts, as contracts and promises speak of it.
+
+-- a table without its counts, as list and judge take it
+pub record Rows : Type 0 where
+  pub starts : List ℕ
+  pub targets : List ℕ
+
+-- a table with the reads on each vertex
+pub record Table : Type 0 where
+  pub rows : Rows
+  pub counts : List ℕ
+
+-- n
+abbrev pub size : Rows → ℕ
+size rows = vertices (rows .starts)
+
+-- the edges of a table
+abbrev pub edges : Rows → ℕ → ℕ → Type 0
+edges rows = Edge (rows .starts) (rows .targets)
+
+-- starts and targets are well-formed
+abbrev pub Sound : Rows → Type 0
+Sound rows = WellFormed (rows .starts) (rows .targets)
+
+-- and so are the counts
+abbrev pub SoundTable : Table → Type 0
+SoundTable table = Counted (table .rows .starts) (table .rows .targets) (table .counts)

@@ -5,6 +5,8 @@ ghost use Rattle.table.specs.Verdict.{Says, Verdict};
 ghost use Rattle.table.specs.Table.{Below, StartsFit, RowsRise};
 ghost use Rattle.table.specs.Numbers.{tableDemands, countedDemands};
 use crate::counts::sum_fits;
+use crate::limits::EDGE_LIMIT;
+use crate::limits::START_LIMIT;
 use crate::rows::rises;
 use crate::rows::row;
 
@@ -60,17 +62,17 @@ fn rows_rise(starts: &[u32], targets: &[u32]) -> bool
     true
 }
 
-// 1 to 5, the smallest that is due, or 0: starts and targets are well-formed.
+// 1 to 5, the first that is given, or 0: starts and targets are well-formed.
 pub fn check(starts: &[u32], targets: &[u32]) -> u32
-    ensures { λ r. ⌜ Verdict (tableDemands (now (starts .entry)) (now (targets .entry))) r ⌝ }
+    ensures { λ r. ⌜ Verdict (tableDemands (record { starts = now (starts .entry); targets = now (targets .entry) })) r ⌝ }
 {
     if starts.len() == 0 {
         return 1;
     }
-    if starts.len() > 2049 {
+    if starts.len() > START_LIMIT {
         return 1;
     }
-    if targets.len() > 8192 {
+    if targets.len() > EDGE_LIMIT {
         return 2;
     }
     if !starts_fit(starts, targets.len()) {
@@ -85,9 +87,18 @@ pub fn check(starts: &[u32], targets: &[u32]) -> u32
     0
 }
 
-// 1 to 7, the smallest that is due, or 0: starts, targets and counts are well-formed.
+// 1 to 7, the first that is given, or 0: starts, targets and counts are well-formed.
 pub fn check_counted(starts: &[u32], targets: &[u32], counts: &[u64]) -> u32
-    ensures { λ r. ⌜ Verdict (countedDemands (now (starts .entry)) (now (targets .entry)) (now (counts .entry))) r ⌝ }
+    ensures { λ r.
+        ⌜
+        Verdict
+        (countedDemands
+        (record {
+          rows = record { starts = now (starts .entry); targets = now (targets .entry) };
+          counts = now (counts .entry);
+        }))
+        r
+        ⌝ }
 {
     let number = check(starts, targets);
     if number != 0 {

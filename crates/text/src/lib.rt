@@ -3,9 +3,13 @@
 // A place is where the next byte goes. Each function takes the place and answers the one after what it put. A write that fails is told by the place, so that a program says it once, at its end.
 ghost use Prim.Native.Nat.{_≤_};
 ghost use lib.ListN.{length};
+ghost use Rattle.text.specs.Buffer.{Place};
+
+// How many bytes the buffer has.
+pub const BUFFER: usize = 4_096;
 
 // What a place is once a write has failed: nothing more is put then, and nothing more is written.
-const BROKEN: usize = 4097;
+const BROKEN: usize = BUFFER + 1;
 
 // Writes the first `count` bytes; answers whether all of them were written.
 fn write_front(bytes: &[u8], count: usize) -> bool
@@ -15,8 +19,8 @@ fn write_front(bytes: &[u8], count: usize) -> bool
 }
 
 // Writes out what stands in the buffer before the place; answers whether all that was ever put is written.
-pub fn flush(out: &[u8; 4096], at: usize) -> bool
-    requires { ⌜ at ≤ 4097 ⌝ }
+pub fn flush(out: &[u8; BUFFER], at: usize) -> bool
+    requires { ⌜ Place at ⌝ }
 {
     if at == BROKEN {
         return false;
@@ -25,14 +29,14 @@ pub fn flush(out: &[u8; 4096], at: usize) -> bool
 }
 
 // Puts a byte, after writing the buffer out where it is full.
-pub fn byte(out: &mut [u8; 4096], at: usize, b: u8) -> usize
-    requires { ⌜ at ≤ 4097 ⌝ }
-    ensures { λ r. ⌜ r ≤ 4097 ⌝ }
+pub fn byte(out: &mut [u8; BUFFER], at: usize, b: u8) -> usize
+    requires { ⌜ Place at ⌝ }
+    ensures { λ r. ⌜ Place r ⌝ }
 {
     if at == BROKEN {
         return BROKEN;
     }
-    if at == 4096 {
+    if at == BUFFER {
         if !flush(out, at) {
             return BROKEN;
         }
@@ -44,9 +48,9 @@ pub fn byte(out: &mut [u8; 4096], at: usize, b: u8) -> usize
 }
 
 // Puts bytes, one after the other.
-pub fn word(out: &mut [u8; 4096], at: usize, bytes: &[u8]) -> usize
-    requires { ⌜ at ≤ 4097 ⌝ }
-    ensures { λ r. ⌜ r ≤ 4097 ⌝ }
+pub fn word(out: &mut [u8; BUFFER], at: usize, bytes: &[u8]) -> usize
+    requires { ⌜ Place at ⌝ }
+    ensures { λ r. ⌜ Place r ⌝ }
 {
     let mut place = at;
     let mut k = 0;
@@ -58,9 +62,9 @@ pub fn word(out: &mut [u8; 4096], at: usize, bytes: &[u8]) -> usize
 }
 
 // Puts a number in shortest decimal.
-pub fn number(out: &mut [u8; 4096], at: usize, x: u64) -> usize
-    requires { ⌜ at ≤ 4097 ⌝ }
-    ensures { λ r. ⌜ r ≤ 4097 ⌝ }
+pub fn number(out: &mut [u8; BUFFER], at: usize, x: u64) -> usize
+    requires { ⌜ Place at ⌝ }
+    ensures { λ r. ⌜ Place r ⌝ }
 {
     let mut digits = [0u8; 20];
     let count = io::decimal(x, &mut digits);
@@ -68,9 +72,9 @@ pub fn number(out: &mut [u8; 4096], at: usize, x: u64) -> usize
 }
 
 // Puts a blank and a number.
-pub fn next_number(out: &mut [u8; 4096], at: usize, x: u64) -> usize
-    requires { ⌜ at ≤ 4097 ⌝ }
-    ensures { λ r. ⌜ r ≤ 4097 ⌝ }
+pub fn next_number(out: &mut [u8; BUFFER], at: usize, x: u64) -> usize
+    requires { ⌜ Place at ⌝ }
+    ensures { λ r. ⌜ Place r ⌝ }
 {
     let place = byte(out, at, b' ');
     number(out, place, x)

@@ -11,7 +11,7 @@ use lib.Arith.{lt-one}
 use lib.Pow.{pow-mono, shr-shr, shr-lt}
 use lib.Bits.{bitOr, or-shr, or-step, shifted-half, shifted-even}
 use lib.Count.{ones, ones-step}
-use Rattle.bubble.proofs.Pigeonhole.{Distinct}
+use Rattle.bubble.specs.Distinct.{Distinct}
 use Rattle.vertices.specs.Vertices.{bitAt, Numbers}
 use Rattle.vertices.proofs.NumberLaws.{numbers-of, numbers-joined}
 

@@ -7,7 +7,7 @@ use native.Mathlib.Omega.{arith}
 use native.Mathlib.Decide.{ℕ-discrete}
 use lib.ListN.{length, getD}
 use lib.Seq.{ext-getD}
-use Rattle.vertices.specs.Vertices.{bitAt, Member, Words, Added}
+use Rattle.vertices.specs.Vertices.{bitAt, Member, set-words, Words, Added}
 use Rattle.vertices.proofs.BitLaws.{bit-first, bit-next, bit-below}
 
 -- the same ones, place by place, are the same word
@@ -39,14 +39,14 @@ member-at words i k h =
 pub members-determine : {words words′ : List ℕ} → Words words → Words words′ → ((x : ℕ) → Member words x ↔ Member words′ x) → words ≡ words′
 members-determine {words} {words′} a b same = ext-getD 0 words words′ (a .many ∙ sym (b .many)) each
   where
-    there : (i : ℕ) (u w : List ℕ) → Words u → i < 32 → ((x : ℕ) → Member u x → Member w x) → (k : ℕ) → bitAt (getD u i 0) k ≡ 1 → bitAt (getD w i 0) k ≡ 1
+    there : (i : ℕ) (u w : List ℕ) → Words u → i < set-words → ((x : ℕ) → Member u x → Member w x) → (k : ℕ) → bitAt (getD u i 0) k ≡ 1 → bitAt (getD w i 0) k ≡ 1
     there i u w ok h to k q =
         let small : k < 64 = bit-below 64 (getD u i 0) k (ok .each i (omega (arith, ok .many))) q in
         member-at w i k small .0 (to (64 * i + k) (member-at u i k small .1 q))
 
     each : (i : ℕ) → i < length words → getD words i 0 ≡ getD words′ i 0
     each i l =
-        let h : i < 32 = omega (arith, a .many) in
+        let h : i < set-words = omega (arith, a .many) in
         same-bits 64 (getD words i 0) (getD words′ i 0) (a .each i l) (b .each i (omega (arith, b .many)))
         (λ k. (there i words words′ a h (λ x. same x .0) k, there i words′ words b h (λ x. same x .1) k))
 

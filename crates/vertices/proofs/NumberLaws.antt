@@ -6,7 +6,8 @@ use mathlib.Core.List.{List, _++_, map, List·Memᴰ, List·Memᴰ·append-cases
 use native.Mathlib.Omega.{arith}
 use lib.ListN.{length, length-append, length-map}
 use Rattle.table.specs.Table.{In}
-use Rattle.bubble.proofs.Pigeonhole.{Distinct, distinct-within, distinct-append, distinct-map, getD-in, place-of, distinct-apart, apart-distinct}
+use Rattle.bubble.specs.Distinct.{Distinct}
+use Rattle.bubble.proofs.Pigeonhole.{distinct-within, distinct-append, distinct-map, getD-in, place-of, distinct-apart, apart-distinct}
 use Rattle.vertices.specs.Vertices.{Numbers}
 
 -- ---- a list's places and its entries

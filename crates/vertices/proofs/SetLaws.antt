@@ -11,9 +11,10 @@ use lib.Bits.{bitOr, or-lt}
 use lib.Count.{ones, ones-le}
 use lib.ListN.{length, getD, set, take, replicate, length-replicate, length-set}
 use lib.Seq.{take-all, getD-set-same, getD-set-other}
+use Rattle.table.specs.Limits.{vertex-limit}
 use Rattle.table.specs.Table.{Below}
-use Rattle.bubble.proofs.Pigeonhole.{Distinct}
-use Rattle.vertices.specs.Vertices.{bitAt, Member, onesOf, Numbers, Words, Added, Size}
+use Rattle.bubble.specs.Distinct.{Distinct}
+use Rattle.vertices.specs.Vertices.{bitAt, Member, onesOf, Numbers, set-words, Words, Added, Size}
 use Rattle.vertices.proofs.BitLaws.{bit-of-zero, bit-below, power-has, power-only, or-has, bits-numbered}
 use Rattle.vertices.proofs.NumberLaws.{numbers-of, numbers-joined}
 
@@ -31,12 +32,12 @@ empty n v m = let z : bitAt (getD (replicate n 0) (v / 64) 0) (v % 64) ≡ 0 = r
 empty-each : (n : ℕ) → Below (2 ^ 64) (replicate n 0)
 empty-each n i h = omega (arith, zeros n i)
 
-pub empty-words : Words (replicate 32 0)
-empty-words = record { many = length-replicate {A = ℕ} 32 0; each = empty-each 32 }
+pub empty-words : Words (replicate set-words 0)
+empty-words = record { many = length-replicate {A = ℕ} set-words 0; each = empty-each set-words }
 
 -- ---- a vertex added
 
-module _ (words : List ℕ) (v : ℕ) (sound : Words words) (vertex : v < 2048) where
+module _ {words : List ℕ} (v : ℕ) (sound : Words words) (vertex : v < vertex-limit) where
   abbrev bit : ℕ
   bit = (1 * 2 ^ (v % 64)) % 2 ^ 64
 
@@ -94,12 +95,12 @@ sum-suc [] i h = absurd (omega arith)
 sum-suc (w ∷ words) zero h = omega arith
 sum-suc (w ∷ words) (suc i) h = omega (arith, sum-suc words i (omega arith))
 
-pub sum-more : (words : List ℕ) → Words words → (i : ℕ) → i < 32 → onesOf (take (i + 1) words) ≡ onesOf (take i words) + ones (getD words i 0)
-sum-more words sound i h = rw (add-one i) (sum-suc words i (omega (arith, sound .many)))
+pub sum-more : {words : List ℕ} → Words words → (i : ℕ) → i < set-words → onesOf (take (i + 1) words) ≡ onesOf (take i words) + ones (getD words i 0)
+sum-more {words} sound i h = rw (add-one i) (sum-suc words i (omega (arith, sound .many)))
 
 -- a word has at most 64 ones
-pub word-most : (words : List ℕ) → Words words → (i : ℕ) → i < 32 → ones (getD words i 0) ≤ 64
-word-most words sound i h = ones-le 64 (getD words i 0) (sound .each i (omega (arith, sound .many)))
+pub word-most : {words : List ℕ} → Words words → (i : ℕ) → i < set-words → ones (getD words i 0) ≤ 64
+word-most {words} sound i h = ones-le 64 (getD words i 0) (sound .each i (omega (arith, sound .many)))
 
 -- the set of the words but the first, 64 further on
 member-next : (w : ℕ) (words : List ℕ) (u : ℕ) → bitAt (getD (w ∷ words) ((64 + u) / 64) 0) ((64 + u) % 64) ≡ bitAt (getD words (u / 64) 0) (u % 64)
@@ -134,8 +135,8 @@ members-numbered (w ∷ words) h =
     numbers-joined (λ u. 64 + u) (bits-numbered 64 w first) (members-numbered words (λ k g. h (suc k) (omega arith))) (λ a b q. omega arith)
     (λ u q p. omega (arith, bit-below 64 w (64 + u) first p)) (λ v. by-word w words v first)
 
--- the sum over all 32 words is the size
-pub summed : (words : List ℕ) → Words words → (r : ℕ) → r ≡ onesOf (take 32 words) → Size words r
-summed words sound r q =
-    let all : r ≡ onesOf words = q ∙ ap onesOf (take-all 32 words (omega (arith, sound .many))) in
+-- the sum over all words is the size
+pub summed : {words : List ℕ} → Words words → (r : ℕ) → r ≡ onesOf (take set-words words) → Size words r
+summed {words} sound r q =
+    let all : r ≡ onesOf words = q ∙ ap onesOf (take-all set-words words (omega (arith, sound .many))) in
     record { sum = all; number = rw all (members-numbered words (sound .each)) }

@@ -1,10 +1,11 @@
--- A set of vertices, one bit each, in 32 words of 64 bits, and the number of its members. Assumes nothing.
+-- A set of vertices, one bit each, in words of 64 bits, and the number of its members. Assumes nothing.
 use Prim.Native.Nat.{ℕ, _+_, _/_, _%_, _^_, _<_}
 use mathlib.Core.Path.{_≡_}
 use mathlib.Core.Logic.{_↔_, _⊎_}
 use mathlib.Core.List.{List, [], _∷_}
 use lib.ListN.{length, getD}
 use lib.Count.{ones}
+use Rattle.table.specs.Limits.{vertex-limit}
 use Rattle.table.specs.Table.{In, Below}
 
 -- the bit of place k, 0 or 1
@@ -27,9 +28,13 @@ pub record Numbers (P : ℕ → Type 0) (k : ℕ) : Type 0 where
   pub apart : (i j : ℕ) → i < k → j < k → getD listed i 0 ≡ getD listed j 0 → i ≡ j
   pub exactly : (v : ℕ) → In v listed ↔ P v
 
--- 32 words of 64 bits
+-- the words of a set: each holds 64 vertices
+abbrev pub set-words : ℕ
+set-words = vertex-limit / 64
+
+-- a set's words, of 64 bits each
 pub record Words (words : List ℕ) : Type 0 where
-  pub many : length words ≡ 32
+  pub many : length words ≡ set-words
   pub each : Below (2 ^ 64) words
 
 -- v was added to the set

@@ -3,11 +3,12 @@ use Prim.Native.Nat.{_-_, _≤_}
 use mathlib.Core.Path.{_≡_}
 use lib.ListN.{length}
 use borrow.Author.Needs.{needs}
+use Rattle.text.specs.Buffer.{Place}
 use Rattle.batch.proofs.all_cases.Statement.{statement}
 use Rattle.batch.proofs.all_cases.Tie as tie
 
 abbrev Inv-loop : tie.InvT-loop
-Inv-loop out₀ body₀ words₀ counts₀ turns₀ at₀ out body words counts turns at = (at ≤ 4097) × (length body ≡ length body₀) × (length words ≡ length words₀) × (length counts ≡ length counts₀)
+Inv-loop out₀ body₀ words₀ counts₀ turns₀ at₀ out body words counts turns at = (Place at) × (length body ≡ length body₀) × (length words ≡ length words₀) × (length counts ≡ length counts₀)
 
 abbrev μ-loop : tie.MeasureT-loop
 μ-loop out₀ body₀ words₀ counts₀ turns₀ at₀ out body words counts turns at = turns

@@ -1,4 +1,5 @@
--- The proof of the cycle of calls {visit, walk_row}. The measure is the number of unvisited vertices: `visit` lowers it before it walks a row, and a row's walk calls `visit` with no more than it was given, so it is 2u for `visit` and 2u + 1 for `walk_row`. The loop's invariant: each of the first k of the row is done. Assumes nothing.
+-- The proof of the cycle of calls {visit, walk_row}. The measure is the number of unvisited vertices: `visit` lowers it before it walks a row, and a row's
+-- walk calls `visit` with no more than it was given, so it is 2u for `visit` and 2u + 1 for `walk_row`. The loop's invariant: each of the first k of the row is done. Assumes nothing.
 use Prim.Native.Nat.{ℕ, _+_, _-_, _*_, _≤_, _<_}
 use mathlib.Core.Path.{refl}
 use native.Mathlib.Omega.{arith}
@@ -6,9 +7,10 @@ use lib.ListN.{length, getD}
 use borrow.Author.Needs.{needs}
 use Rattle.table.specs.Table.{vertices}
 use Rattle.table.proofs.RowLaws.{row-lies}
-use Rattle.cycle.specs.Visits.{Visited}
+use Rattle.cycle.specs.Visits.{EachDone}
 use Rattle.cycle.proofs.CountLaws.{unvisited, onward-unvisited, enter-unvisited}
-use Rattle.cycle.proofs.VisitLaws.{FirstOf, first-none, first-more, first-all, coloured, below-most, path-closes, visited-before, row-visitable, row-visited, visited-none, visitable-later, visited-more, visited-some}
+use Rattle.cycle.proofs.VisitLaws.{FirstOf, first-none, first-more, first-all, coloured, below-most, path-closes, visited-before}
+use Rattle.cycle.proofs.VisitLaws.{row-visitable, row-visited, visited-none, visitable-later, visited-more, visited-some}
 use borrow.Fn.Kinds.{In}
 use borrow.Fn.PlainCycle.{Measures, is, falls, and}
 use Rattle.cycle.proofs.visit.Reads as visit
@@ -121,7 +123,7 @@ visit-returns-4 t c = let st = c .before .before .before .before .before .before
 
 abbrev walk-row-Inv-loop : walk-row-lts.InvT-loop
 walk-row-Inv-loop starts targets colours₀ row k₀ colours k =
-    (k ≤ length row) × Visited starts targets colours₀ colours (FirstOf k row)
+    (k ≤ length row) × EachDone starts targets colours₀ colours (FirstOf k row)
 
 abbrev walk-row-μ-loop : walk-row-lts.MeasureT-loop
 walk-row-μ-loop starts targets colours₀ row k₀ colours k = length row - k

@@ -2,13 +2,13 @@
 use Prim.Native.Nat.{_-_, _≤_, _<_}
 use native.Mathlib.Omega.{arith}
 use borrow.Author.Needs.{needs}
-use Rattle.cycle.specs.Visits.{Visited}
+use Rattle.cycle.specs.Visits.{EachDone}
 use Rattle.cycle.proofs.VisitLaws.{below-more, all-visitable, visited-none, visitable-later, visited-more, visited-some, done-no-cycle}
 use Rattle.cycle.proofs.has_cycle.Statement.{statement}
 use Rattle.cycle.proofs.has_cycle.Tie as tie
 
 abbrev Inv-loop : tie.InvT-loop
-Inv-loop starts targets colours₀ n v₀ colours v = (v ≤ n) × Visited starts targets colours₀ colours (λ u. u < v)
+Inv-loop starts targets colours₀ n v₀ colours v = (v ≤ n) × EachDone starts targets colours₀ colours (λ u. u < v)
 
 abbrev μ-loop : tie.MeasureT-loop
 μ-loop starts targets colours₀ n v₀ colours v = n - v

@@ -29,7 +29,9 @@ byte-requires : tie.Need-byte-requires
 byte-requires c κs = search needs
 
 pair-lines-requires : tie.Need-pair-lines-requires
-pair-lines-requires c κs = (list-within _ _ _ _ _ _ (c .before .before .before .before .before .before .before .before .before .before .before .before .before .list .ensures) (c .before .before .before .before .before .before .before .before .before .if1 .left), search needs)
+pair-lines-requires c κs =
+    let taken = c .before .before .before .before .before .before .before .before .before in
+    (list-within (taken .before .before .before .before .list .ensures) (taken .if1 .left), search needs)
 
 accepted-requires : tie.Need-accepted-requires
 accepted-requires c κs = search needs

@@ -2,11 +2,12 @@
 use Prim.Native.Nat.{_+_, _*_, _-_, _≤_}
 use native.Mathlib.Omega.{arith}
 use borrow.Author.Needs.{needs}
+use Rattle.text.specs.Buffer.{Place}
 use Rattle.list.proofs.pair_lines.Statement.{statement}
 use Rattle.list.proofs.pair_lines.Tie as tie
 
 abbrev Inv-loop : tie.InvT-loop
-Inv-loop out₀ at pairs found place₀ k₀ out place k = (k ≤ found) × (place ≤ 4097)
+Inv-loop out₀ at pairs found place₀ k₀ out place k = (k ≤ found) × (Place place)
 
 abbrev μ-loop : tie.MeasureT-loop
 μ-loop out₀ at pairs found place₀ k₀ out place k = found - k

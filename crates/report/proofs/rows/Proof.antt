@@ -4,11 +4,12 @@ use native.Mathlib.Omega.{arith}
 use lib.ListN.{length}
 use Rattle.table.proofs.RowLaws.{row-lies}
 use borrow.Author.Needs.{needs}
+use Rattle.text.specs.Buffer.{Place}
 use Rattle.report.proofs.rows.Statement.{statement}
 use Rattle.report.proofs.rows.Tie as tie
 
 abbrev Inv-loop : tie.InvT-loop
-Inv-loop out₀ at starts targets counts place₀ v₀ out place v = (v ≤ length counts) × (place ≤ 4097)
+Inv-loop out₀ at starts targets counts place₀ v₀ out place v = (v ≤ length counts) × (Place place)
 
 abbrev μ-loop : tie.MeasureT-loop
 μ-loop out₀ at starts targets counts place₀ v₀ out place v = length counts - v

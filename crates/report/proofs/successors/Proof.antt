@@ -3,11 +3,12 @@ use Prim.Native.Nat.{_-_, _≤_}
 use native.Mathlib.Omega.{arith}
 use lib.ListN.{length}
 use borrow.Author.Needs.{needs}
+use Rattle.text.specs.Buffer.{Place}
 use Rattle.report.proofs.successors.Statement.{statement}
 use Rattle.report.proofs.successors.Tie as tie
 
 abbrev Inv-loop : tie.InvT-loop
-Inv-loop out₀ at row place₀ k₀ out place k = (k ≤ length row) × (place ≤ 4097)
+Inv-loop out₀ at row place₀ k₀ out place k = (k ≤ length row) × (Place place)
 
 abbrev μ-loop : tie.MeasureT-loop
 μ-loop out₀ at row place₀ k₀ out place k = length row - k

@@ -9,6 +9,10 @@ use borrow.Author.Needs.{needs}
 use Rattle.staying.proofs.write_row.Statement.{statement}
 use Rattle.staying.proofs.write_row.Tie as tie
 
+-- The places that the needs look back to, each seen from a place nearer to them.
+abbrev entry : tie.Else2 → tie.Start
+entry c = c .before .before .before .before
+
 returns : tie.Need-returns
 returns c = let st = c .before .before .before .args in
     rw (stays-none (st .n) (st .next) (st .row .now) (omega arith)) (put-none (st .out .now) (st .at))
@@ -34,8 +38,8 @@ returns-2 : tie.Need-returns-2
 returns-2 c = let st = c .before .before .before .before .args in
     rw (stays-one (st .n) (st .next) (st .row .now) (omega arith)) (put-one (st .out .now) (st .at) (st .next) (room c))
 
-whole : (c : tie.Else2) → staying (c .before .before .before .before .args .n) (c .before .before .before .before .args .next) (c .before .before .before .before .args .row .now) ≡ c .before .before .before .before .args .row .now
-whole c = let st = c .before .before .before .before .args in stays-whole (st .n) (st .next) (st .row .now) (omega arith)
+whole : (c : tie.Else2) → staying (entry c .args .n) (entry c .args .next) (entry c .args .row .now) ≡ entry c .args .row .now
+whole c = let st = entry c .args in stays-whole (st .n) (st .next) (st .row .now) (omega arith)
 
 copy-row-requires : tie.Need-copy-row-requires
 copy-row-requires c κs = rw (whole (c .before)) at (c .before .before .before .before .before .pre)

@@ -2,11 +2,12 @@
 use Prim.Native.Nat.{_-_, _≤_}
 use lib.ListN.{length}
 use borrow.Author.Needs.{needs}
+use Rattle.text.specs.Buffer.{Place}
 use Rattle.text.proofs.word.Statement.{statement}
 use Rattle.text.proofs.word.Tie as tie
 
 abbrev Inv-loop : tie.InvT-loop
-Inv-loop out₀ at bytes place₀ k₀ out place k = (k ≤ length bytes) × (place ≤ 4097)
+Inv-loop out₀ at bytes place₀ k₀ out place k = (k ≤ length bytes) × (Place place)
 
 abbrev μ-loop : tie.MeasureT-loop
 μ-loop out₀ at bytes place₀ k₀ out place k = length bytes - k

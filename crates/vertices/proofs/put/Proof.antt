@@ -27,7 +27,7 @@ element-write-words c = search needs
 
 returns : tie.Need-returns
 returns c = let start = c .before in
-    added (start .args .words .now) (start .args .v) (start .pre .0) (start .pre .1)
+    added (start .args .v) (start .pre .0) (start .pre .1)
 
 pub put-spec : {M : Type 1} → statement M
 put-spec =

@@ -3,17 +3,17 @@ use mathlib.Core.Path.{_≡_, ap, _∙_}
 use Prim.Native.Nat.{_-_, _*_, _≤_, _<_}
 use native.Mathlib.Omega.{arith}
 use lib.ListN.{take}
-use Rattle.vertices.specs.Vertices.{onesOf}
+use Rattle.vertices.specs.Vertices.{onesOf, set-words}
 use Rattle.vertices.proofs.SetLaws.{sum-more, word-most, summed}
 use borrow.Author.Needs.{needs}
 use Rattle.vertices.proofs.size.Statement.{statement}
 use Rattle.vertices.proofs.size.Tie as tie
 
 abbrev Inv-loop : tie.InvT-loop
-Inv-loop words sum₀ i₀ sum i = (i ≤ 32) × (sum ≤ 64 * i) × (sum ≡ onesOf (take i words))
+Inv-loop words sum₀ i₀ sum i = (i ≤ set-words) × (sum ≤ 64 * i) × (sum ≡ onesOf (take i words))
 
 abbrev μ-loop : tie.MeasureT-loop
-μ-loop words sum₀ i₀ sum i = 32 - i
+μ-loop words sum₀ i₀ sum i = set-words - i
 
 loop-holds : tie.Need-loop-holds Inv-loop μ-loop
 loop-holds c = search needs
@@ -27,7 +27,7 @@ element-copy-out-sum c = search needs
 add-sum : tie.Need-add-sum Inv-loop μ-loop
 add-sum c =
     let start = c .before .before .before in
-    omega (arith, word-most (start .args .words .now) (start .pre) (c .before .before .loop .i) (omega arith))
+    omega (arith, word-most (start .pre) (c .before .before .loop .i) (omega arith))
 
 add-i : tie.Need-add-i Inv-loop μ-loop
 add-i c = search needs
@@ -39,15 +39,15 @@ loop-again : tie.Need-loop-again Inv-loop μ-loop
 loop-again c =
     let start = c .before .before .before in
     let i = c .before .before .loop .i in
-    let turn : i < 32 = omega arith in
-    omega (arith, word-most (start .args .words .now) (start .pre) i turn, sum-more (start .args .words .now) (start .pre) i turn)
+    let turn : i < set-words = omega arith in
+    omega (arith, word-most (start .pre) i turn, sum-more (start .pre) i turn)
 
 returns : tie.Need-returns Inv-loop μ-loop
 returns c =
     let start = c .before .before in
     let words = start .args .words .now in
-    let end : c .before .loop .i ≡ 32 = omega arith in
-    summed words (start .pre) (c .before .loop .sum) (c .before .loop .inv .2 ∙ ap (λ i. onesOf (take i words)) end)
+    let end : c .before .loop .i ≡ set-words = omega arith in
+    summed (start .pre) (c .before .loop .sum) (c .before .loop .inv .2 ∙ ap (λ i. onesOf (take i words)) end)
 
 pub size-spec : {M : Type 1} → statement M
 size-spec =

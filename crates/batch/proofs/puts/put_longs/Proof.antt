@@ -2,11 +2,12 @@
 use Prim.Native.Nat.{_-_, _≤_}
 use lib.ListN.{length}
 use borrow.Author.Needs.{needs}
+use Rattle.text.specs.Buffer.{Place}
 use Rattle.batch.proofs.puts.put_longs.Statement.{statement}
 use Rattle.batch.proofs.puts.put_longs.Tie as tie
 
 abbrev Inv-loop : tie.InvT-loop
-Inv-loop out₀ at numbers place₀ k₀ out place k = (k ≤ length numbers) × (place ≤ 4097)
+Inv-loop out₀ at numbers place₀ k₀ out place k = (k ≤ length numbers) × (Place place)
 
 abbrev μ-loop : tie.MeasureT-loop
 μ-loop out₀ at numbers place₀ k₀ out place k = length numbers - k

@@ -11,13 +11,17 @@ use Rattle.candidates.proofs.finding.count.Statement.{statement}
 use Rattle.candidates.proofs.finding.count.Tie as tie
 
 abbrev Inv-loop : tie.InvT-loop
-Inv-loop exits found₀ s₀ found s = (s ≤ length exits) × (found ≤ s) × (found ≡ length (entrances-below exits s))
+Inv-loop exits none found₀ s₀ found s = (none ≡ length exits) × (s ≤ length exits) × (found ≤ s) × (found ≡ length (entrances-below exits s))
 
 abbrev μ-loop : tie.MeasureT-loop
-μ-loop exits found₀ s₀ found s = length exits - s
+μ-loop exits none found₀ s₀ found s = length exits - s
+
+-- The places that the needs look back to, each seen from a place nearer to them.
+abbrev entry : tie.Joined1 Inv-loop μ-loop → tie.Start Inv-loop μ-loop
+entry c = c .before .before .before .before
 
 loop-holds : tie.Need-loop-holds Inv-loop μ-loop
-loop-holds c = (omega arith, omega arith, refl)
+loop-holds c = (refl, omega arith, omega arith, refl)
 
 mul-if1 : tie.Need-mul-if1 Inv-loop μ-loop
 mul-if1 c = search needs
@@ -39,16 +43,16 @@ loop-less c = search needs
 
 loop-again : tie.Need-loop-again Inv-loop μ-loop
 loop-again c =
-    let exits = c .before .before .before .before .args .exits .now in
+    let exits = entry c .args .exits .now in
     let s = c .before .before .before .loop .s in
-    ⊎-elim (λ w. (omega arith, omega arith, omega (arith, count-more exits s (omega arith)))) (λ w. (omega arith, omega arith, omega (arith, count-none exits s (omega arith))))
-    (c .if1 .came)
+    ⊎-elim (λ w. (omega arith, omega arith, omega arith, omega (arith, count-more exits s (omega arith))))
+    (λ w. (omega arith, omega arith, omega arith, omega (arith, count-none exits s (omega arith)))) (c .if1 .came)
 
 returns : tie.Need-returns Inv-loop μ-loop
 returns c =
     let exits = c .before .before .args .exits .now in
     let all : c .before .loop .s ≡ length exits = omega arith in
-    rw all at (c .before .loop .inv .2)
+    rw all at (c .before .loop .inv .3)
 
 pub count-spec : {M : Type 1} → statement M
 count-spec =

@@ -8,14 +8,14 @@ use Rattle.candidates.proofs.finding.note.Tie as tie
 enum-known-exit : tie.Need-enum-known-exit
 enum-known-exit c = search needs
 
-settle-requires : tie.Need-settle-requires
-settle-requires c κs = rw (c .before .before .exit .given .1) at (c .before .before .before .before .before .before .pre)
+set-exit-requires : tie.Need-set-exit-requires
+set-exit-requires c κs = rw (c .before .before .exit .given .1) at (c .before .before .before .before .before .before .pre)
 
 enum-told : tie.Need-enum-told
 enum-told c = search needs
 
-cast-exits : tie.Need-cast-exits
-cast-exits c = let h = rw (c .enum-told .given .1) at (c .before .before .before .before .pre) in
+cast-none : tie.Need-cast-none
+cast-none c = let h = rw (c .enum-told .given .1) at (c .before .before .before .before .pre) in
     omega arith
 
 mul-exits : tie.Need-mul-exits
@@ -30,7 +30,7 @@ same-length : tie.Need-same-length
 same-length c = search needs
 
 returns : tie.Need-returns
-returns c = rw (c .before .before .before .before .before .exit .given .1) (c .before .before .settle .ensures)
+returns c = rw (c .before .before .before .before .before .exit .given .1) (c .before .before .set-exit .ensures)
 
 same-length-2 : tie.Need-same-length-2
 same-length-2 c = search needs
@@ -43,9 +43,9 @@ note-spec =
     tie.close
     (tie.spec
     enum-known-exit
-    settle-requires
+    set-exit-requires
     enum-told
-    cast-exits
+    cast-none
     mul-exits
     slice-write-exits
     same-length

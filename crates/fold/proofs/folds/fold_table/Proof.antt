@@ -2,13 +2,32 @@
 use mathlib.Core.Path.{sym}
 use native.Mathlib.Omega.{arith}
 use lib.Seq.{length-take-le}
+use Rattle.table.specs.Table.{Table}
 use Rattle.fold.proofs.Within.{Fronts, fold-within}
 use borrow.Author.Needs.{needs}
 use Rattle.fold.proofs.folds.fold_table.Statement.{statement}
 use Rattle.fold.proofs.folds.fold_table.Tie as tie
 
-fronts : (c : tie.Else1) → Fronts (c .before .before .before .before .before .before .before .before .before .before .before .before .before .before .before .before .before .before .before .args .starts .now) (c .before .before .before .before .before .before .before .before .before .before .before .before .before .before .before .before .before .before .before .args .targets .now) (c .before .before .before .before .before .before .before .before .before .before .before .before .before .before .before .before .before .before .before .args .counts .now) (c .before .before .before .before .before .before .before .before .fold .last .1 .1 .1 .1 .0) (c .before .before .before .before .before .before .before .before .fold .last .1 .1 .1 .1 .1 .0) (c .before .before .before .before .before .before .before .before .fold .last .1 .1 .1 .1 .1 .1 .0) (c .before .before .before .before .before .before .before .before .fold .result .edges)
-fronts c = fold-within _ _ _ _ _ _ _ _ _ _ _ _ _ _ (c .before .before .before .before .before .before .before .before .before .before .before .before .before .before .before .before .before .before .before .pre) (c .before .before .before .before .before .before .before .before .fold .ensures) (c .if1 .left)
+-- The places that the needs look back to.
+abbrev folded : tie.Else1 → tie.After-fold
+folded c = c .before .before .before .before .before .before .before .before
+
+abbrev entry : tie.After-fold → tie.Start
+entry c = c .before .before .before .before .before .before .before .before .before .before .before
+
+-- the table that is handed in, and the second set of slices after the fold
+abbrev handed : tie.Start → Table
+handed c = record { rows = record { starts = c .args .starts .now; targets = c .args .targets .now }; counts = c .args .counts .now }
+
+abbrev written : tie.After-fold → Table
+written c =
+    record {
+      rows = record { starts = c .fold .last .1 .1 .1 .1 .0; targets = c .fold .last .1 .1 .1 .1 .1 .0 };
+      counts = c .fold .last .1 .1 .1 .1 .1 .1 .0;
+    }
+
+fronts : (c : tie.Else1) → Fronts (handed (entry (folded c))) (written (folded c)) (folded c .fold .result .edges)
+fronts c = fold-within (entry (folded c) .pre) (folded c .fold .ensures) (c .if1 .left)
 
 fold-requires : tie.Need-fold-requires
 fold-requires c κs = search needs

@@ -1,5 +1,5 @@
 -- `fold::folds::write_folded` meets its contract: the new image lies within its slice. Assumes nothing.
-use Rattle.fold.proofs.Within.{write-within}
+use Rattle.writing.proofs.WriteLaws.{written-within}
 use borrow.Author.Needs.{needs}
 use Rattle.fold.proofs.folds.write_folded.Statement.{statement}
 use Rattle.fold.proofs.folds.write_folded.Tie as tie
@@ -20,7 +20,7 @@ same-length-2 : tie.Need-same-length-2
 same-length-2 c = search needs
 
 returns-2 : tie.Need-returns-2
-returns-2 c = write-within _ _ _ _ _ _ _ (c .before .before .before .before .write .ensures) (c .if1 .left)
+returns-2 c = written-within (c .before .before .before .before .write .ensures) (c .if1 .left)
 
 pub write-folded-spec : {M : Type 1} → statement M
 write-folded-spec =

@@ -1,74 +1,49 @@
--- `folding::folds::fold_in` meets its contract: the first n of each slice are lent. Assumes nothing.
-use Prim.Native.Nat.{_-_}
-use mathlib.Core.Path.{sym}
-use lib.ListN.{length}
-use lib.Seq.{length-take-le}
-use Rattle.table.proofs.FrontLaws.{front-long}
-use Rattle.folding.proofs.DoneLaws.{longer-counts}
+-- `folding::folds::fold_in` meets its contract: the first n of each slice are lent to the turns, and the new table is written. Assumes nothing.
+use mathlib.Core.Path.{refl, sym}
+use Rattle.rule.proofs.TheFold.{the-fold-lawful}
+use Rattle.folding.proofs.DoneLaws.{room-ready, turned-writable, folded-most, folded-at}
 use borrow.Author.Needs.{needs}
 use Rattle.folding.proofs.folds.fold_in.Statement.{statement}
 use Rattle.folding.proofs.folds.fold_in.Tie as tie
 
+-- The places that the needs look back to, each seen from a place nearer to them.
+abbrev entry : tie.After-rows → tie.Start
+entry c = c .before .before .before .before .before .before .before .before
+
+abbrev after-rows : tie.After-write-table-arg2 → tie.After-rows
+after-rows c = c .before .before .before .before .before .before .before .before .before .before
+
+abbrev after-turn : tie.After-write-table-arg2 → tie.After-turn
+after-turn c = c .before .before .before .before .before .before .before
+
+abbrev after-write-table : tie.After-struct-known → tie.After-write-table
+after-write-table c = c .before .before .before .before .before .before .before
+
 sub-n : tie.Need-sub-n
 sub-n c = search needs
 
-slice-relend-prefix-fold-with : tie.Need-slice-relend-prefix-fold-with
-slice-relend-prefix-fold-with c = search needs
+slice-relend-prefix-rows : tie.Need-slice-relend-prefix-rows
+slice-relend-prefix-rows c = search needs
 
-slice-aggregate-fold-with : tie.Need-slice-aggregate-fold-with
-slice-aggregate-fold-with c = sym (front-long (c .before .before .before .before .before .before .before .before .before .before .before .before .before .args .starts .now) (c .before .before .before .before .before .before .before .before .before .before .before .before .before .args .targets .now) (c .before .before .before .before .before .before .before .before .before .before .before .before .before .args .parents .now) (c .before .before .before .before .before .before .before .before .before .before .before .before .before .pre .0 .counted .well-formed) (c .before .before .before .before .before .before .before .before .before .before .before .before .before .pre .0 .parents-long))
+slice-aggregate-rows : tie.Need-slice-aggregate-rows
+slice-aggregate-rows c = sym (room-ready (entry c .pre) .next-long)
 
-slice-relend-prefix-fold-with-2 : tie.Need-slice-relend-prefix-fold-with-2
-slice-relend-prefix-fold-with-2 c = search needs
+slice-relend-prefix-turn : tie.Need-slice-relend-prefix-turn
+slice-relend-prefix-turn c = search needs
 
-slice-aggregate-fold-with-2 : tie.Need-slice-aggregate-fold-with-2
-slice-aggregate-fold-with-2 c = sym (front-long (c .before .before .before .before .before .before .before .before .before .before .before .before .before .before .args .starts .now) (c .before .before .before .before .before .before .before .before .before .before .before .before .before .before .args .targets .now) (c .before .before .before .before .before .before .before .before .before .before .before .before .before .before .args .left .now) (c .before .before .before .before .before .before .before .before .before .before .before .before .before .before .pre .0 .counted .well-formed) (c .before .before .before .before .before .before .before .before .before .before .before .before .before .before .pre .0 .left-long))
+slice-aggregate-turn : tie.Need-slice-aggregate-turn
+slice-aggregate-turn c = sym (room-ready (entry (c .before .before) .pre) .out-long)
 
-slice-relend-prefix-fold-with-3 : tie.Need-slice-relend-prefix-fold-with-3
-slice-relend-prefix-fold-with-3 c = search needs
+turn-requires : tie.Need-turn-requires
+turn-requires c κs = room-ready (entry (c .before .before) .pre)
 
-slice-aggregate-fold-with-3 : tie.Need-slice-aggregate-fold-with-3
-slice-aggregate-fold-with-3 c = sym (front-long (c .before .before .before .before .before .before .before .before .before .before .before .before .before .before .before .args .starts .now) (c .before .before .before .before .before .before .before .before .before .before .before .before .before .before .before .args .targets .now) (c .before .before .before .before .before .before .before .before .before .before .before .before .before .before .before .args .order .now) (c .before .before .before .before .before .before .before .before .before .before .before .before .before .before .before .pre .0 .counted .well-formed) (c .before .before .before .before .before .before .before .before .before .before .before .before .before .before .before .pre .0 .order-long))
+write-table-requires : tie.Need-write-table-requires
+write-table-requires c κs = let pre = entry (after-rows c) .pre in
+    turned-writable the-fold-lawful (pre .counted) (pre .kind) (after-turn c .turn .ensures) (pre .room .0) (pre .room .1)
 
-slice-relend-prefix-fold-with-4 : tie.Need-slice-relend-prefix-fold-with-4
-slice-relend-prefix-fold-with-4 c = search needs
-
-slice-aggregate-fold-with-4 : tie.Need-slice-aggregate-fold-with-4
-slice-aggregate-fold-with-4 c = sym (front-long (c .before .before .before .before .before .before .before .before .before .before .before .before .before .before .before .before .args .starts .now) (c .before .before .before .before .before .before .before .before .before .before .before .before .before .before .before .before .args .targets .now) (c .before .before .before .before .before .before .before .before .before .before .before .before .before .before .before .before .args .exits .now) (c .before .before .before .before .before .before .before .before .before .before .before .before .before .before .before .before .pre .0 .counted .well-formed) (c .before .before .before .before .before .before .before .before .before .before .before .before .before .before .before .before .pre .0 .exits-long))
-
-slice-relend-prefix-fold-with-5 : tie.Need-slice-relend-prefix-fold-with-5
-slice-relend-prefix-fold-with-5 c = search needs
-
-slice-aggregate-fold-with-5 : tie.Need-slice-aggregate-fold-with-5
-slice-aggregate-fold-with-5 c = sym (front-long (c .before .before .before .before .before .before .before .before .before .before .before .before .before .before .before .before .before .args .starts .now) (c .before .before .before .before .before .before .before .before .before .before .before .before .before .before .before .before .before .args .targets .now) (c .before .before .before .before .before .before .before .before .before .before .before .before .before .before .before .before .before .args .best .now) (c .before .before .before .before .before .before .before .before .before .before .before .before .before .before .before .before .before .pre .0 .counted .well-formed) (c .before .before .before .before .before .before .before .before .before .before .before .before .before .before .before .before .before .pre .0 .best-long))
-
-slice-relend-prefix-fold-with-6 : tie.Need-slice-relend-prefix-fold-with-6
-slice-relend-prefix-fold-with-6 c = search needs
-
-slice-aggregate-fold-with-6 : tie.Need-slice-aggregate-fold-with-6
-slice-aggregate-fold-with-6 c = sym (front-long (c .before .before .before .before .before .before .before .before .before .before .before .before .before .before .before .before .before .before .args .starts .now) (c .before .before .before .before .before .before .before .before .before .before .before .before .before .before .before .before .before .before .args .targets .now) (c .before .before .before .before .before .before .before .before .before .before .before .before .before .before .before .before .before .before .args .next .now) (c .before .before .before .before .before .before .before .before .before .before .before .before .before .before .before .before .before .before .pre .0 .counted .well-formed) (c .before .before .before .before .before .before .before .before .before .before .before .before .before .before .before .before .before .before .pre .0 .next-long))
-
-slice-relend-prefix-fold-with-7 : tie.Need-slice-relend-prefix-fold-with-7
-slice-relend-prefix-fold-with-7 c = search needs
-
-slice-aggregate-fold-with-7 : tie.Need-slice-aggregate-fold-with-7
-slice-aggregate-fold-with-7 c = sym (length-take-le (length (c .before .before .before .before .before .before .before .before .before .before .before .before .before .before .before .before .before .before .before .before .before .args .starts .now) - 1) (c .before .before .before .before .before .before .before .before .before .before .before .before .before .before .before .before .before .before .before .before .before .args .counts2 .now) (c .before .before .before .before .before .before .before .before .before .before .before .before .before .before .before .before .before .before .before .before .before .pre .0 .out-room))
-
-fold-with-requires : tie.Need-fold-with-requires
-fold-with-requires c κs = let room = c .before .before .before .before .before .before .before .before .before .before .before .before .before .before .before .before .before .before .before .before .before .pre .0 in (
-  record {
-    counted = room .counted;
-    acyclic = room .acyclic;
-    parents-long = front-long (c .before .before .before .before .before .before .before .before .before .before .before .before .before .before .before .before .before .before .before .before .before .args .starts .now) (c .before .before .before .before .before .before .before .before .before .before .before .before .before .before .before .before .before .before .before .before .before .args .targets .now) (c .before .before .before .before .before .before .before .before .before .before .before .before .before .before .before .before .before .before .before .before .before .args .parents .now) (c .before .before .before .before .before .before .before .before .before .before .before .before .before .before .before .before .before .before .before .before .before .pre .0 .counted .well-formed) (c .before .before .before .before .before .before .before .before .before .before .before .before .before .before .before .before .before .before .before .before .before .pre .0 .parents-long);
-    left-long = front-long (c .before .before .before .before .before .before .before .before .before .before .before .before .before .before .before .before .before .before .before .before .before .args .starts .now) (c .before .before .before .before .before .before .before .before .before .before .before .before .before .before .before .before .before .before .before .before .before .args .targets .now) (c .before .before .before .before .before .before .before .before .before .before .before .before .before .before .before .before .before .before .before .before .before .args .left .now) (c .before .before .before .before .before .before .before .before .before .before .before .before .before .before .before .before .before .before .before .before .before .pre .0 .counted .well-formed) (c .before .before .before .before .before .before .before .before .before .before .before .before .before .before .before .before .before .before .before .before .before .pre .0 .left-long);
-    order-long = front-long (c .before .before .before .before .before .before .before .before .before .before .before .before .before .before .before .before .before .before .before .before .before .args .starts .now) (c .before .before .before .before .before .before .before .before .before .before .before .before .before .before .before .before .before .before .before .before .before .args .targets .now) (c .before .before .before .before .before .before .before .before .before .before .before .before .before .before .before .before .before .before .before .before .before .args .order .now) (c .before .before .before .before .before .before .before .before .before .before .before .before .before .before .before .before .before .before .before .before .before .pre .0 .counted .well-formed) (c .before .before .before .before .before .before .before .before .before .before .before .before .before .before .before .before .before .before .before .before .before .pre .0 .order-long);
-    exits-long = front-long (c .before .before .before .before .before .before .before .before .before .before .before .before .before .before .before .before .before .before .before .before .before .args .starts .now) (c .before .before .before .before .before .before .before .before .before .before .before .before .before .before .before .before .before .before .before .before .before .args .targets .now) (c .before .before .before .before .before .before .before .before .before .before .before .before .before .before .before .before .before .before .before .before .before .args .exits .now) (c .before .before .before .before .before .before .before .before .before .before .before .before .before .before .before .before .before .before .before .before .before .pre .0 .counted .well-formed) (c .before .before .before .before .before .before .before .before .before .before .before .before .before .before .before .before .before .before .before .before .before .pre .0 .exits-long);
-    best-long = front-long (c .before .before .before .before .before .before .before .before .before .before .before .before .before .before .before .before .before .before .before .before .before .args .starts .now) (c .before .before .before .before .before .before .before .before .before .before .before .before .before .before .before .before .before .before .before .before .before .args .targets .now) (c .before .before .before .before .before .before .before .before .before .before .before .before .before .before .before .before .before .before .before .before .before .args .best .now) (c .before .before .before .before .before .before .before .before .before .before .before .before .before .before .before .before .before .before .before .before .before .pre .0 .counted .well-formed) (c .before .before .before .before .before .before .before .before .before .before .before .before .before .before .before .before .before .before .before .before .before .pre .0 .best-long);
-    next-long = front-long (c .before .before .before .before .before .before .before .before .before .before .before .before .before .before .before .before .before .before .before .before .before .args .starts .now) (c .before .before .before .before .before .before .before .before .before .before .before .before .before .before .before .before .before .before .before .before .before .args .targets .now) (c .before .before .before .before .before .before .before .before .before .before .before .before .before .before .before .before .before .before .before .before .before .args .next .now) (c .before .before .before .before .before .before .before .before .before .before .before .before .before .before .before .before .before .before .before .before .before .pre .0 .counted .well-formed) (c .before .before .before .before .before .before .before .before .before .before .before .before .before .before .before .before .before .before .before .before .before .pre .0 .next-long);
-    out-long = length-take-le (length (c .before .before .before .before .before .before .before .before .before .before .before .before .before .before .before .before .before .before .before .before .before .args .starts .now) - 1) (c .before .before .before .before .before .before .before .before .before .before .before .before .before .before .before .before .before .before .before .before .before .args .counts2 .now) (room .out-room);
-  },
-  c .before .before .before .before .before .before .before .before .before .before .before .before .before .before .before .before .before .before .before .before .before .pre .1,
-)
+sub-t13 : tie.Need-sub-t13
+sub-t13 c = let pre = entry (after-rows (after-write-table c .before)) .pre in
+    folded-most the-fold-lawful (pre .counted) (pre .kind) (after-turn (after-write-table c .before) .turn .ensures)
 
 same-length : tie.Need-same-length
 same-length c = search needs
@@ -82,54 +57,24 @@ same-length-3 c = search needs
 same-length-4 : tie.Need-same-length-4
 same-length-4 c = search needs
 
-same-length-5 : tie.Need-same-length-5
-same-length-5 c = search needs
-
-same-length-6 : tie.Need-same-length-6
-same-length-6 c = search needs
-
-same-length-7 : tie.Need-same-length-7
-same-length-7 c = search needs
-
-same-length-8 : tie.Need-same-length-8
-same-length-8 c = search needs
-
-same-length-9 : tie.Need-same-length-9
-same-length-9 c = search needs
-
 returns : tie.Need-returns
-returns c = (
-  c .before .before .before .before .before .before .before .before .before .before .before .before .before .before .before .before .before .before .fold-with .ensures .0,
-  longer-counts (c .before .before .before .before .before .before .before .before .before .before .before .before .before .before .before .before .before .before .before .before .before .before .before .before .before .before .before .before .before .before .before .before .before .before .before .before .before .before .before .before .args .starts .now) (c .before .before .before .before .before .before .before .before .before .before .before .before .before .before .before .before .before .before .before .before .before .before .before .before .before .before .before .before .before .before .before .before .before .before .before .before .before .before .before .before .args .targets .now) (c .before .before .before .before .before .before .before .before .before .before .before .before .before .before .before .before .before .before .before .before .before .before .before .before .before .before .before .before .before .before .before .before .before .before .before .before .before .before .before .before .args .counts .now) (c .before .before .before .before .before .before .before .before .before .before .before .before .before .before .before .before .before .before .before .before .before .before .before .before .before .before .before .before .before .before .before .before .before .before .before .before .before .before .before .before .args .budget) (c .before .before .before .before .before .before .before .before .before .before .before .before .before .before .before .before .before .before .before .before .before .before .before .before .before .before .before .before .before .before .before .before .before .before .before .before .before .before .before .before .args .starts2 .now) (c .before .before .before .before .before .before .before .before .before .before .before .before .before .before .before .before .before .before .before .before .before .before .before .before .before .before .before .before .before .before .before .before .before .before .before .before .before .before .before .before .args .targets2 .now) (c .before .before .before .before .before .before .before .before .before .before .before .before .before .before .before .before .before .before .before .before .before .before .before .before .before .before .before .before .before .before .before .before .before .before .before .before .before .before .before .before .args .counts2 .now) (c .before .before .before .before .before .before .before .before .before .before .before .before .before .before .before .before .before .before .fold-with .last .1 .1 .1 .1 .1 .1 .1 .1 .1 .1 .0) (c .before .before .before .before .before .before .before .before .before .before .before .before .before .before .before .before .before .before .fold-with .last .1 .1 .1 .1 .1 .1 .1 .1 .1 .1 .1 .0) (c .before .before .before .before .before .before .before .before .before .before .before .before .before .before .before .before .before .before .fold-with .last .1 .1 .1 .1 .1 .1 .1 .1 .1 .1 .1 .1 .0) (c .before .before .before .before .before .before .before .before .before .before .before .before .before .before .before .before .before .before .fold-with .result .folded) (c .before .before .before .before .before .before .before .before .before .before .before .before .before .before .before .before .before .before .fold-with .result .left) (c .before .before .before .before .before .before .before .before .before .before .before .before .before .before .before .before .before .before .fold-with .result .edges) (c .before .before .before .before .before .before .before .before .before .before .before .before .before .before .before .before .before .before .before .before .before .before .before .before .before .before .before .before .before .before .before .before .before .before .before .before .before .before .before .before .pre .0 .out-room) (c .before .before .before .before .before .before .before .before .before .before .before .before .before .before .before .before .before .before .fold-with .ensures .1),
-)
+returns c = let pre = entry (after-rows (after-write-table c .before)) .pre in
+    (refl, folded-at the-fold-lawful (pre .counted) (pre .kind) (after-turn (after-write-table c .before) .turn .ensures) (after-write-table c .write-table .ensures))
 
 pub fold-in-spec : {M : Type 1} → statement M
 fold-in-spec =
     tie.close
     (tie.spec
     sub-n
-    slice-relend-prefix-fold-with
-    slice-aggregate-fold-with
-    slice-relend-prefix-fold-with-2
-    slice-aggregate-fold-with-2
-    slice-relend-prefix-fold-with-3
-    slice-aggregate-fold-with-3
-    slice-relend-prefix-fold-with-4
-    slice-aggregate-fold-with-4
-    slice-relend-prefix-fold-with-5
-    slice-aggregate-fold-with-5
-    slice-relend-prefix-fold-with-6
-    slice-aggregate-fold-with-6
-    slice-relend-prefix-fold-with-7
-    slice-aggregate-fold-with-7
-    fold-with-requires
+    slice-relend-prefix-rows
+    slice-aggregate-rows
+    slice-relend-prefix-turn
+    slice-aggregate-turn
+    turn-requires
+    write-table-requires
+    sub-t13
     same-length
     same-length-2
     same-length-3
     same-length-4
-    same-length-5
-    same-length-6
-    same-length-7
-    same-length-8
-    same-length-9
     returns)

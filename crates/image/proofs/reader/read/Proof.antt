@@ -1,48 +1,55 @@
 -- `image::reader::read` meets its contract: an image that is judged sound, room, and the table laid out. Assumes nothing.
-use mathlib.Core.List.{_++_}
 use native.Mathlib.Omega.{arith}
-use Rattle.table.proofs.VerdictLaws.{AllMet}
-use Rattle.image.specs.Contracts.{headerDemands, bodyDemands}
-use Rattle.image.proofs.ReadLaws.{Sound, judged-met, judged-header, read-refused-by-image, read-refused-by-room, read-taken}
+use Rattle.image.proofs.ReadLaws.{HeaderSays, judged-met, judged-says, read-refused-by-image, read-refused-by-room, read-taken}
 use borrow.Author.Needs.{needs}
 use Rattle.image.proofs.reader.read.Statement.{statement}
 use Rattle.image.proofs.reader.read.Tie as tie
 
-met : (c : tie.Else1) → AllMet (headerDemands (c .before .before .before .before .before .before .before .args .image .now) ++ bodyDemands (c .before .before .before .before .before .before .before .args .image .now))
-met c = judged-met _ _ _ _ (c .before .before .judge .ensures) (c .if1 .left)
+-- The places that the needs look back to, each seen from a place nearer to them.
+abbrev entry : tie.Else1 → tie.Start
+entry c = c .before .before .before .before .before .before .before
 
-sound : (c : tie.Else1) → Sound (c .before .before .before .before .before .before .before .args .image .now) (c .before .before .judge .result .vertices) (c .before .before .judge .result .edges)
-sound c = judged-header _ _ _ _ (c .before .before .judge .ensures) (c .if1 .left)
+abbrev judged : tie.Else1 → tie.After-judge
+judged c = c .before .before
+
+abbrev accepted : tie.After-lay → tie.Else1
+accepted c = c .before .before .before .before .before .before .before
+
+header-sound : (c : tie.Else1) → HeaderSays (entry c .args .image .now) (judged c .judge .result .vertices) (judged c .judge .result .edges)
+header-sound c = judged-says (judged c .judge .ensures) (c .if1 .left)
 
 judge-requires : tie.Need-judge-requires
 judge-requires c κs = search needs
 
 returns : tie.Need-returns
-returns c = read-refused-by-image _ _ _ _ _ _ _ (c .if1 .taken) (c .before .before .judge .ensures)
+returns c = read-refused-by-image (c .if1 .taken) (c .before .before .judge .ensures)
 
 add-if2 : tie.Need-add-if2
-add-if2 c = omega (arith, sound c)
+add-if2 c = omega (arith, header-sound c)
 
 refused-requires : tie.Need-refused-requires
 refused-requires c κs = search needs
 
 returns-2 : tie.Need-returns-2
-returns-2 c = read-refused-by-room _ _ _ _ _ _ _ (met (c .before .before)) (λ room. omega (arith, sound (c .before .before), room)) (c .refused .ensures)
+returns-2 c = let start = c .before .before in
+    read-refused-by-room (judged-met (judged start .judge .ensures) (start .if1 .left)) (λ room. omega (arith, header-sound start, room)) (c .refused .ensures)
 
 refused-requires-2 : tie.Need-refused-requires-2
 refused-requires-2 c κs = search needs
 
 returns-3 : tie.Need-returns-3
-returns-3 c = read-refused-by-room _ _ _ _ _ _ _ (met (c .before .before .before)) (λ room. omega (arith, sound (c .before .before .before), room)) (c .refused2 .ensures)
+returns-3 c = let start = c .before .before .before in
+    read-refused-by-room (judged-met (judged start .judge .ensures) (start .if1 .left)) (λ room. omega (arith, header-sound start, room)) (c .refused2 .ensures)
 
 refused-requires-3 : tie.Need-refused-requires-3
 refused-requires-3 c κs = search needs
 
 returns-4 : tie.Need-returns-4
-returns-4 c = read-refused-by-room _ _ _ _ _ _ _ (met (c .before .before .before .before)) (λ room. omega (arith, sound (c .before .before .before .before), room)) (c .refused3 .ensures)
+returns-4 c = let start = c .before .before .before .before in
+    read-refused-by-room (judged-met (judged start .judge .ensures) (start .if1 .left)) (λ room. omega (arith, header-sound start, room)) (c .refused3 .ensures)
 
 lay-requires : tie.Need-lay-requires
-lay-requires c κs = omega (arith, sound (c .before .before .before .before .before .before))
+lay-requires c κs = omega (arith, header-sound (c .before .before .before .before .before .before))
 
 same-length : tie.Need-same-length
 same-length c = search needs
@@ -54,9 +61,9 @@ same-length-3 : tie.Need-same-length-3
 same-length-3 c = search needs
 
 returns-5 : tie.Need-returns-5
-returns-5 c = let laid = c .before .before .before .before .before .before .lay in
-    read-taken _ _ _ _ _ _ _ (laid .last .1 .1 .1 .0) (laid .last .1 .1 .1 .1 .0) (laid .last .1 .1 .1 .1 .1 .0) (c .before .before .before .before .before .before .before .before .before .before .before .before .before .if1 .left) (met (c .before .before .before .before .before .before .before .before .before .before .before .before .before))
-    (omega (arith, sound (c .before .before .before .before .before .before .before .before .before .before .before .before .before))) (sound (c .before .before .before .before .before .before .before .before .before .before .before .before .before)) (laid .ensures)
+returns-5 c = let laid = c .before .before .before .before .before .before in
+    let start = accepted laid in
+    read-taken (judged start .judge .ensures) (start .if1 .left) (omega (arith, header-sound start)) (laid .lay .ensures)
 
 pub read-spec : {M : Type 1} → statement M
 read-spec =

@@ -16,15 +16,22 @@ Inv-loop row counts best t child₀ gain₀ k₀ child gain k = (k ≤ length ro
 abbrev μ-loop : tie.MeasureT-loop
 μ-loop row counts best t child₀ gain₀ k₀ child gain k = length row - k
 
+-- The places that the needs look back to, each seen from a place nearer to them.
+abbrev entry : tie.After-shared-slice-known4 Inv-loop μ-loop → tie.Start Inv-loop μ-loop
+entry c = c .before .before .before .before
+
+abbrev at-loop : tie.Joined1 Inv-loop μ-loop → tie.At-loop Inv-loop μ-loop
+at-loop c = c .before .before .before .before
+
 shared-slice-read-child : tie.Need-shared-slice-read-child Inv-loop μ-loop
 shared-slice-read-child c = search needs
 
 worth-requires : tie.Need-worth-requires Inv-loop μ-loop
-worth-requires c κs = let st = c .before .before .before .before in
+worth-requires c κs = let st = entry c in
     st .pre .each 0 (st .pre .some)
 
 loop-holds : tie.Need-loop-holds Inv-loop μ-loop
-loop-holds c = let st = c .before .before .before .before .before in
+loop-holds c = let st = entry (c .before) in
     (omega (arith, st .pre .some), chosen-one (c .worth .ensures))
 
 mul-u : tie.Need-mul-u Inv-loop μ-loop
@@ -34,7 +41,7 @@ shared-slice-read-u : tie.Need-shared-slice-read-u Inv-loop μ-loop
 shared-slice-read-u c = search needs
 
 worth-requires-2 : tie.Need-worth-requires-2 Inv-loop μ-loop
-worth-requires-2 c κs = let st = c .before .before .before .before .before .before .before .before in
+worth-requires-2 c κs = let st = entry (c .before .before .before .before) in
     st .pre .each (c .before .before .loop .k) (c .before .loop-test .taken)
 
 add-k : tie.Need-add-k Inv-loop μ-loop
@@ -44,7 +51,7 @@ loop-less : tie.Need-loop-less Inv-loop μ-loop
 loop-less c = search needs
 
 loop-again : tie.Need-loop-again Inv-loop μ-loop
-loop-again c = let at = c .before .before .before .before .loop in
+loop-again c = let at = at-loop c .loop in
     let chosen = at .inv .1 in
     let value = c .before .worth2 .ensures in (
       omega arith,
@@ -52,7 +59,7 @@ loop-again c = let at = c .before .before .before .before .loop in
     )
 
 returns : tie.Need-returns Inv-loop μ-loop
-returns c = let all : c .before .loop .k ≡ length (c .before .before .before .before .before .before .before .args .row .now) = omega arith in
+returns c = let all : c .before .loop .k ≡ length (entry (c .before .before .before) .args .row .now) = omega arith in
     rw all at (c .before .loop .inv .1)
 
 pub choose-spec : {M : Type 1} → statement M

@@ -13,23 +13,35 @@ use Rattle.kept.proofs.paths.settle.Tie as tie
 
 abbrev Inv-loop : tie.InvT-loop
 Inv-loop starts targets counts visited t best₀ next₀ k₀ best next k =
-    (k ≤ length visited) × (length best ≡ length best₀) × (length next ≡ length next₀) × SettledFrom starts targets counts visited t next₀ k best next
+    (k ≤ length visited) × (length best ≡ length best₀) × (length next ≡ length next₀)
+    × SettledFrom (record { rows = record { starts = starts; targets = targets }; counts = counts }) visited t next₀ k best next
 
 abbrev μ-loop : tie.MeasureT-loop
 μ-loop starts targets counts visited t best₀ next₀ k₀ best next k = k
 
+-- The places that the needs look back to, each seen from a place nearer to them.
+abbrev entry : tie.At-loop Inv-loop μ-loop → tie.Start Inv-loop μ-loop
+entry c = c .before .before .before .before .before .before .before
+
+abbrev at-loop : tie.After-choose-arg Inv-loop μ-loop → tie.At-loop Inv-loop μ-loop
+at-loop c = c .before .before .before .before
+
+abbrev in-loop : tie.After-choose Inv-loop μ-loop → tie.In-loop Inv-loop μ-loop
+in-loop c = c .before .before .before .before
+
 -- the vertex of this turn
 below : (c : tie.In-loop Inv-loop μ-loop) →
-    let lent = c .before .before .before .before .before .before .before .before .args in
+    let lent = entry (c .before) .args in
     getD (lent .visited .now) (c .before .loop .k - 1) 0 < length (lent .starts .now) - 1
-below c = let st = c .before .before .before .before .before .before .before .before in
+below c = let st = entry (c .before) in
     visited-below (st .pre .order) (c .before .loop .k - 1) (omega arith)
 
 -- those after it are settled
 later : (c : tie.In-loop Inv-loop μ-loop) →
-    let lent = c .before .before .before .before .before .before .before .before .args in
+    let lent = entry (c .before) .args in
     let at = c .before .loop in
-    SettledFrom (lent .starts .now) (lent .targets .now) (lent .counts .now) (lent .visited .now) (lent .t) (lent .next .now) (suc (at .k - 1)) (at .best) (at .next)
+    SettledFrom (record { rows = record { starts = lent .starts .now; targets = lent .targets .now }; counts = lent .counts .now }) (lent .visited .now) (lent .t)
+    (lent .next .now) (suc (at .k - 1)) (at .best) (at .next)
 later c = let at = c .before .loop in
     let one : suc (at .k - 1) ≡ at .k = omega arith in
     rw one (at .inv .3)
@@ -55,37 +67,37 @@ cast-v : tie.Need-cast-v Inv-loop μ-loop
 cast-v c = omega (arith, c .shared-slice-known5 .given (c .before .before .loop .k - 1))
 
 row-requires : tie.Need-row-requires Inv-loop μ-loop
-row-requires c κs = let p = c .before .before .before .before .before .before .before .before .before .pre in
+row-requires c κs = let p = entry (c .before .before) .pre in
     row-lies _ _ (p .counted .well-formed .starts-fit) _ (below (c .before))
 
 choose-requires : tie.Need-choose-requires Inv-loop μ-loop
-choose-requires c κs = let p = c .before .before .before .before .before .before .before .before .before .before .before .pre in
-    let at = c .before .before .before .before .loop in
+choose-requires c κs = let p = entry (at-loop c) .pre in
+    let at = at-loop c .loop in
     rw (c .before .row .ensures) (settle-choosable p (at .k - 1) (omega arith) (later (c .before .before .before)) (omega (arith, p .best-room, at .inv .1)) (omega (arith, p .next-room, at .inv .2)))
 
 mul-best : tie.Need-mul-best Inv-loop μ-loop
-mul-best c = omega (arith, below (c .before .before .before .before), c .before .before .before .before .before .before .before .before .before .before .before .before .pre .best-room, c .before .before .before .before .before .loop .inv .1)
+mul-best c = omega (arith, below (in-loop c), entry (at-loop (c .before)) .pre .best-room, at-loop (c .before) .loop .inv .1)
 
 slice-write-best : tie.Need-slice-write-best Inv-loop μ-loop
-slice-write-best c = omega (arith, below (c .before .before .before .before), c .before .before .before .before .before .before .before .before .before .before .before .before .pre .best-room, c .before .before .before .before .before .loop .inv .1)
+slice-write-best c = omega (arith, below (in-loop c), entry (at-loop (c .before)) .pre .best-room, at-loop (c .before) .loop .inv .1)
 
 mul-next : tie.Need-mul-next Inv-loop μ-loop
-mul-next c = omega (arith, below (c .before .before .before .before), c .before .before .before .before .before .before .before .before .before .before .before .before .pre .next-room, c .before .before .before .before .before .loop .inv .2)
+mul-next c = omega (arith, below (in-loop c), entry (at-loop (c .before)) .pre .next-room, at-loop (c .before) .loop .inv .2)
 
 slice-write-next : tie.Need-slice-write-next Inv-loop μ-loop
-slice-write-next c = omega (arith, below (c .before .before .before .before), c .before .before .before .before .before .before .before .before .before .before .before .before .pre .next-room, c .before .before .before .before .before .loop .inv .2)
+slice-write-next c = omega (arith, below (in-loop c), entry (at-loop (c .before)) .pre .next-room, at-loop (c .before) .loop .inv .2)
 
 loop-less : tie.Need-loop-less Inv-loop μ-loop
 loop-less c = omega arith
 
 loop-again : tie.Need-loop-again Inv-loop μ-loop
-loop-again c = let p = c .before .before .before .before .before .before .before .before .before .before .before .before .pre in
-    let at = c .before .before .before .before .before .loop in
+loop-again c = let p = entry (at-loop (c .before)) .pre in
+    let at = at-loop (c .before) .loop in
     let chosen = rw (c .before .before .row .ensures) at (c .choose .ensures) in (
       omega arith,
       simp length-set (at .inv .1),
       simp length-set (at .inv .2),
-      settle-more p (at .k - 1) (omega arith) (later (c .before .before .before .before)) (omega (arith, p .best-room, at .inv .1)) (omega (arith, p .next-room, at .inv .2)) chosen,
+      settle-more p (at .k - 1) (omega arith) (later (in-loop c)) (omega (arith, p .best-room, at .inv .1)) (omega (arith, p .next-room, at .inv .2)) chosen,
     )
 
 same-length : tie.Need-same-length Inv-loop μ-loop

@@ -11,13 +11,20 @@ use Rattle.search.proofs.visits.undo.Statement.{statement}
 use Rattle.search.proofs.visits.undo.Tie as tie
 
 abbrev Inv-loop : tie.InvT-loop
-Inv-loop starts targets left₀ order visited k₀ left k = Lowered starts targets left order k
+Inv-loop starts targets pending₀ order visited k₀ pending k = Lowered starts targets pending order k
 
 abbrev μ-loop : tie.MeasureT-loop
-μ-loop starts targets left₀ order visited k₀ left k = k
+μ-loop starts targets pending₀ order visited k₀ pending k = k
+
+-- The places that the needs look back to, each seen from a place nearer to them.
+abbrev entry : tie.After-shared-slice-known3 Inv-loop μ-loop → tie.Start Inv-loop μ-loop
+entry c = c .before .before .before .before
+
+abbrev after-shared-slice-known3 : tie.After-tally Inv-loop μ-loop → tie.After-shared-slice-known3 Inv-loop μ-loop
+after-shared-slice-known3 c = c .before .before .before .before .before .before
 
 loop-holds : tie.Need-loop-holds Inv-loop μ-loop
-loop-holds c = c .before .before .before .before .pre .1
+loop-holds c = entry c .pre .1
 
 sub-k : tie.Need-sub-k Inv-loop μ-loop
 sub-k c = search needs
@@ -32,12 +39,12 @@ cast-v : tie.Need-cast-v Inv-loop μ-loop
 cast-v c = omega (arith, c .shared-slice-known4 .given (c .before .before .loop .k - 1))
 
 row-requires : tie.Need-row-requires Inv-loop μ-loop
-row-requires c κs = let st = c .before .before .before .before .before .before .before in
+row-requires c κs = let st = entry (c .before .before .before) in
     let at = c .before .before .loop in
     row-lies _ _ (st .pre .0 .starts-fit) (getD (st .args .order .now) (at .k - 1) 0) (at .inv .below (at .k - 1) (omega arith))
 
 tally-requires : tie.Need-tally-requires Inv-loop μ-loop
-tally-requires c κs = let st = c .before .before .before .before .before .before .before .before .before in
+tally-requires c κs = let st = entry (c .before .before .before .before .before) in
     let at = c .before .before .before .before .loop in
     let one : at .k ≡ (at .k - 1) + 1 = omega arith in
     rw (c .before .row .ensures) (undo-tallying (at .k - 1) (st .pre .0) (rw one at (at .inv)))
@@ -46,13 +53,13 @@ loop-less : tie.Need-loop-less Inv-loop μ-loop
 loop-less c = search needs
 
 loop-again : tie.Need-loop-again Inv-loop μ-loop
-loop-again c = let st = c .before .before .before .before .before .before .before .before .before .before .before .before in
+loop-again c = let st = entry (after-shared-slice-known3 (c .before .before)) in
     let at = c .before .before .before .before .before .before .before .loop in
     let one : at .k ≡ (at .k - 1) + 1 = omega arith in
     undo-more (at .k - 1) (st .pre .0) (rw one at (at .inv)) (rw (c .before .before .before .before .row .ensures) at (c .before .before .tally .ensures))
 
 same-length : tie.Need-same-length Inv-loop μ-loop
-same-length c = c .before .loop .inv .each ∙ sym (c .before .before .before .before .before .before .pre .1 .each)
+same-length c = c .before .loop .inv .each ∙ sym (entry (c .before .before) .pre .1 .each)
 
 returns : tie.Need-returns Inv-loop μ-loop
 returns c = let none : c .before .loop .k ≡ 0 = omega arith in

@@ -7,6 +7,13 @@ use borrow.Author.Needs.{needs}
 use Rattle.table.proofs.checks.check.Statement.{statement}
 use Rattle.table.proofs.checks.check.Tie as tie
 
+-- The places that the needs look back to, each seen from a place nearer to them.
+abbrev after-starts-fit : tie.After-rows-rise → tie.After-starts-fit
+after-starts-fit c = c .before .before .before .before
+
+abbrev in-else4 : tie.Else6 → tie.Else4
+in-else4 c = c .before .before .before .before
+
 returns : tie.Need-returns
 returns c = inl ((λ met. omega arith), refl)
 
@@ -49,7 +56,7 @@ returns-6 c = inr (
   inr (
     omega arith,
     inr (
-      says-yes _ (c .before .before .before .before .before .starts-fit .result) (c .before .before .before .before .before .starts-fit .ensures) (c .before .before .before .before .if4 .left),
+      says-yes _ (after-starts-fit (c .before) .starts-fit .result) (after-starts-fit (c .before) .starts-fit .ensures) (c .before .before .before .before .if4 .left),
       inr (
         says-yes _ (c .before .before .before .all-below .result) (c .before .before .before .all-below .ensures) (c .before .before .if5 .left),
         inl (says-no _ (c .before .rows-rise .result) (c .before .rows-rise .ensures) (c .if6 .taken), refl),
@@ -64,7 +71,7 @@ returns-7 c = inr (
   inr (
     omega arith,
     inr (
-      says-yes _ (c .before .before .before .before .before .starts-fit .result) (c .before .before .before .before .before .starts-fit .ensures) (c .before .before .before .before .if4 .left),
+      says-yes _ (after-starts-fit (c .before) .starts-fit .result) (after-starts-fit (c .before) .starts-fit .ensures) (in-else4 c .if4 .left),
       inr (
         says-yes _ (c .before .before .before .all-below .result) (c .before .before .before .all-below .ensures) (c .before .before .if5 .left),
         inr (says-yes _ (c .before .rows-rise .result) (c .before .rows-rise .ensures) (c .if6 .left), refl),

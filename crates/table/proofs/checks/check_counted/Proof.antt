@@ -1,4 +1,5 @@
 -- `table::checks::check_counted` meets its contract: what `check` says, and then 6 and 7. Assumes nothing.
+use Rattle.table.specs.Table.{Table}
 use Rattle.table.specs.Numbers.{tableDemands, countDemands}
 use mathlib.Core.Path.{refl}
 use mathlib.Core.Logic.{inl, inr}
@@ -9,40 +10,40 @@ use borrow.Author.Needs.{needs}
 use Rattle.table.proofs.checks.check_counted.Statement.{statement}
 use Rattle.table.proofs.checks.check_counted.Tie as tie
 
+-- The places that the needs look back to, each seen from a place nearer to them.
+abbrev entry : tie.After-check → tie.Start
+entry c = c .before .before .before .before
+
+-- the table that is handed in
+abbrev handed : tie.Start → Table
+handed c = record { rows = record { starts = c .args .starts .now; targets = c .args .targets .now }; counts = c .args .counts .now }
+
 check-requires : tie.Need-check-requires
 check-requires c κs = search needs
 
 returns : tie.Need-returns
-returns c = let starts = c .before .before .before .before .before .args .starts .now in
-    let targets = c .before .before .before .before .before .args .targets .now in
-    let counts = c .before .before .before .before .before .args .counts .now in
-    stops (tableDemands starts targets) (countDemands starts counts) (c .before .check .result) (c .if1 .taken) (c .before .check .ensures)
+returns c = let table = handed (entry (c .before)) in
+    stops (tableDemands (table .rows)) (countDemands table) (c .before .check .result) (c .if1 .taken) (c .before .check .ensures)
 
 sub-if2 : tie.Need-sub-if2
-sub-if2 c = omega (arith, table-met (c .before .before .before .before .before .args .starts .now) (c .before .before .before .before .before .args .targets .now) (rw (c .if1 .left) at (c .before .check .ensures)) .0 .0)
+sub-if2 c = omega (arith, table-met (handed (entry (c .before)) .rows) (rw (c .if1 .left) at (c .before .check .ensures)) .0 .0)
 
 returns-2 : tie.Need-returns-2
-returns-2 c = let starts = c .before .before .before .before .before .before .args .starts .now in
-    let targets = c .before .before .before .before .before .before .args .targets .now in
-    let counts = c .before .before .before .before .before .before .args .counts .now in
-    goes-on (tableDemands starts targets) (countDemands starts counts) 6 (table-met starts targets (rw (c .before .if1 .left) at (c .before .before .check .ensures)))
+returns-2 c = let table = handed (entry (c .before .before)) in
+    goes-on (tableDemands (table .rows)) (countDemands table) 6 (table-met (table .rows) (rw (c .before .if1 .left) at (c .before .before .check .ensures)))
     (inl (c .if2 .taken, refl))
 
 sum-fits-requires : tie.Need-sum-fits-requires
 sum-fits-requires c κs = search needs
 
 returns-3 : tie.Need-returns-3
-returns-3 c = let starts = c .before .before .before .before .before .before .before .before .args .starts .now in
-    let targets = c .before .before .before .before .before .before .before .before .args .targets .now in
-    let counts = c .before .before .before .before .before .before .before .before .args .counts .now in
-    goes-on (tableDemands starts targets) (countDemands starts counts) 7 (table-met starts targets (rw (c .before .before .before .if1 .left) at (c .before .before .before .before .check .ensures)))
+returns-3 c = let table = handed (entry (c .before .before .before .before)) in
+    goes-on (tableDemands (table .rows)) (countDemands table) 7 (table-met (table .rows) (rw (c .before .before .before .if1 .left) at (c .before .before .before .before .check .ensures)))
     (inr (c .before .before .if2 .left, inl (says-no _ (c .before .sum-fits .result) (c .before .sum-fits .ensures) (c .if3 .taken), refl)))
 
 returns-4 : tie.Need-returns-4
-returns-4 c = let starts = c .before .before .before .before .before .before .before .before .args .starts .now in
-    let targets = c .before .before .before .before .before .before .before .before .args .targets .now in
-    let counts = c .before .before .before .before .before .before .before .before .args .counts .now in
-    goes-on (tableDemands starts targets) (countDemands starts counts) 0 (table-met starts targets (rw (c .before .before .before .if1 .left) at (c .before .before .before .before .check .ensures)))
+returns-4 c = let table = handed (entry (c .before .before .before .before)) in
+    goes-on (tableDemands (table .rows)) (countDemands table) 0 (table-met (table .rows) (rw (c .before .before .before .if1 .left) at (c .before .before .before .before .check .ensures)))
     (inr (c .before .before .if2 .left, inr (says-yes _ (c .before .sum-fits .result) (c .before .sum-fits .ensures) (c .if3 .left), refl)))
 
 pub check-counted-spec : {M : Type 1} → statement M

@@ -17,6 +17,13 @@ Inv-loop starts targets n v₀ v = (n ≡ length starts - 1) × (v ≤ n) × ((u
 abbrev μ-loop : tie.MeasureT-loop
 μ-loop starts targets n v₀ v = n - v
 
+-- The places that the needs look back to, each seen from a place nearer to them.
+abbrev entry : tie.In-loop Inv-loop μ-loop → tie.Start Inv-loop μ-loop
+entry c = c .before .before .before .before
+
+abbrev at-loop : tie.Else1 Inv-loop μ-loop → tie.At-loop Inv-loop μ-loop
+at-loop c = c .before .before .before .before
+
 sub-n : tie.Need-sub-n Inv-loop μ-loop
 sub-n c = search needs
 
@@ -24,7 +31,7 @@ loop-holds : tie.Need-loop-holds Inv-loop μ-loop
 loop-holds c = search needs
 
 row-requires : tie.Need-row-requires Inv-loop μ-loop
-row-requires c κs = row-lies _ _ (c .before .before .before .before .pre .1) (c .before .loop .v) (search needs)
+row-requires c κs = row-lies _ _ (entry c .pre .1) (c .before .loop .v) (search needs)
 
 rises-requires : tie.Need-rises-requires Inv-loop μ-loop
 rises-requires c κs = search needs
@@ -45,7 +52,7 @@ loop-again : tie.Need-loop-again Inv-loop μ-loop
 loop-again c = (
   search needs,
   search needs,
-  below-more _ _ (c .before .before .before .before .loop .inv .2)
+  below-more _ _ (at-loop c .loop .inv .2)
       (says-yes _ (c .before .rises .result) (rw (c .before .before .row .ensures) at (c .before .rises .ensures)) (c .if1 .left)),
 )
 

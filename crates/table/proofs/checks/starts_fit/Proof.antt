@@ -14,6 +14,16 @@ Inv-loop starts m v₀ v = (v < length starts) × ((j : ℕ) → j < v → getD 
 abbrev μ-loop : tie.MeasureT-loop
 μ-loop starts m v₀ v = length starts - v
 
+-- The places that the needs look back to, each seen from a place nearer to them.
+abbrev entry : tie.After-shared-slice-known4 Inv-loop μ-loop → tie.Start Inv-loop μ-loop
+entry c = c .before .before .before .before .before
+
+abbrev in-else1 : tie.Else3 Inv-loop μ-loop → tie.Else1 Inv-loop μ-loop
+in-else1 c = c .before .before .before .before
+
+abbrev at-loop : tie.Else2 Inv-loop μ-loop → tie.At-loop Inv-loop μ-loop
+at-loop c = c .before .before .before .before
+
 shared-slice-read-if1 : tie.Need-shared-slice-read-if1 Inv-loop μ-loop
 shared-slice-read-if1 c = search needs
 
@@ -53,7 +63,7 @@ loop-less : tie.Need-loop-less Inv-loop μ-loop
 loop-less c = search needs
 
 loop-again : tie.Need-loop-again Inv-loop μ-loop
-loop-again c = (search needs, below-more _ _ (c .before .before .before .before .loop .inv .1) (c .if2 .left))
+loop-again c = (search needs, below-more _ _ (at-loop c .loop .inv .1) (c .if2 .left))
 
 mul-if3 : tie.Need-mul-if3 Inv-loop μ-loop
 mul-if3 c = search needs
@@ -66,13 +76,13 @@ cast-if3 c = omega (arith, c .shared-slice-known4 .given (c .before .before .loo
 
 returns-3 : tie.Need-returns-3 Inv-loop μ-loop
 returns-3 c = λ fit.
-    let last : length (c .before .before .before .before .before .before .args .starts .now) - 1 ≡ c .before .before .before .loop .v = omega arith in
+    let last : length (entry (c .before) .args .starts .now) - 1 ≡ c .before .before .before .loop .v = omega arith in
     c .if3 .taken (rw last at (fit .ends))
 
 returns-4 : tie.Need-returns-4 Inv-loop μ-loop
-returns-4 c = let last : length (c .before .before .before .before .before .before .args .starts .now) - 1 ≡ c .before .before .before .loop .v = omega arith in
+returns-4 c = let last : length (entry (c .before) .args .starts .now) - 1 ≡ c .before .before .before .loop .v = omega arith in
     record {
-      begins = c .before .before .before .before .if1 .left;
+      begins = in-else1 c .if1 .left;
       climbs = λ j h. c .before .before .before .loop .inv .1 j (omega arith);
       ends = rw last (c .if3 .left);
     }

@@ -1,9 +1,10 @@
--- `table::counts::sum_fits` meets its contract. The loop's invariant: what is left and the counts passed make up the limit. Assumes nothing.
+-- `table::counts::sum_fits` meets its contract. The loop's invariant: what is spare and the counts passed make up the limit. Assumes nothing.
 use mathlib.Core.Path.{_≡_, ap}
 use Prim.Native.Nat.{_+_, _-_, _≤_}
 use native.Mathlib.Omega.{arith}
 use lib.ListN.{length, take}
 use lib.Seq.{take-all}
+use Rattle.table.specs.Limits.{read-limit}
 use Rattle.table.specs.Table.{countSum}
 use Rattle.table.proofs.SumLaws.{passed-more, passed-least}
 use borrow.Author.Needs.{needs}
@@ -11,10 +12,17 @@ use Rattle.table.proofs.counts.sum_fits.Statement.{statement}
 use Rattle.table.proofs.counts.sum_fits.Tie as tie
 
 abbrev Inv-loop : tie.InvT-loop
-Inv-loop counts left₀ v₀ left v = (v ≤ length counts) × (left + countSum (take v counts) ≡ 1099511627775)
+Inv-loop counts spare₀ v₀ spare v = (v ≤ length counts) × (spare + countSum (take v counts) ≡ read-limit)
 
 abbrev μ-loop : tie.MeasureT-loop
-μ-loop counts left₀ v₀ left v = length counts - v
+μ-loop counts spare₀ v₀ spare v = length counts - v
+
+-- The places that the needs look back to, each seen from a place nearer to them.
+abbrev entry : tie.After-shared-slice-known2 Inv-loop μ-loop → tie.Start Inv-loop μ-loop
+entry c = c .before .before .before .before .before
+
+abbrev at-loop : tie.After-shared-slice-known2 Inv-loop μ-loop → tie.At-loop Inv-loop μ-loop
+at-loop c = c .before .before .before .before
 
 loop-holds : tie.Need-loop-holds Inv-loop μ-loop
 loop-holds c = search needs
@@ -31,14 +39,14 @@ returns c = λ fits.
     let v = c .before .before .before .loop .v in
     omega (arith, passed-more counts v (c .before .before .loop-test .taken), passed-least (v + 1) counts)
 
-mul-left : tie.Need-mul-left Inv-loop μ-loop
-mul-left c = search needs
+mul-spare : tie.Need-mul-spare Inv-loop μ-loop
+mul-spare c = search needs
 
-shared-slice-read-left : tie.Need-shared-slice-read-left Inv-loop μ-loop
-shared-slice-read-left c = search needs
+shared-slice-read-spare : tie.Need-shared-slice-read-spare Inv-loop μ-loop
+shared-slice-read-spare c = search needs
 
-sub-left : tie.Need-sub-left Inv-loop μ-loop
-sub-left c = search needs
+sub-spare : tie.Need-sub-spare Inv-loop μ-loop
+sub-spare c = search needs
 
 add-v : tie.Need-add-v Inv-loop μ-loop
 add-v c = search needs
@@ -49,7 +57,7 @@ loop-less c = search needs
 loop-again : tie.Need-loop-again Inv-loop μ-loop
 loop-again c = omega (
   arith,
-  passed-more (c .before .before .before .before .before .args .counts .now) (c .before .before .before .before .loop .v)
+  passed-more (entry c .args .counts .now) (at-loop c .loop .v)
       (c .before .before .before .loop-test .taken),
 )
 
@@ -68,9 +76,9 @@ sum-fits-spec =
     mul-if1
     shared-slice-read-if1
     returns
-    mul-left
-    shared-slice-read-left
-    sub-left
+    mul-spare
+    shared-slice-read-spare
+    sub-spare
     add-v
     loop-less
     loop-again

@@ -14,6 +14,10 @@ Inv-loop row k₀ k = (1 ≤ k) × ((j : ℕ) → j < k → 1 ≤ j → getD row
 abbrev μ-loop : tie.MeasureT-loop
 μ-loop row k₀ k = length row - k
 
+-- The places that the needs look back to, each seen from a place nearer to them.
+abbrev at-loop : tie.Else1 Inv-loop μ-loop → tie.At-loop Inv-loop μ-loop
+at-loop c = c .before .before .before .before
+
 loop-holds : tie.Need-loop-holds Inv-loop μ-loop
 loop-holds c = (omega arith, λ j l h. absurd (omega (arith, l, h)))
 
@@ -45,7 +49,7 @@ loop-less : tie.Need-loop-less Inv-loop μ-loop
 loop-less c = search needs
 
 loop-again : tie.Need-loop-again Inv-loop μ-loop
-loop-again c = let at = c .before .before .before .before .loop in
+loop-again c = let at = at-loop c .loop in
     (omega arith, below-more _ _ (at .inv .1) (λ _. c .if1 .left))
 
 returns-2 : tie.Need-returns-2 Inv-loop μ-loop

@@ -1,0 +1,3 @@
+-- The laws of `entrances`, in the order in which one reads them. Assumes nothing.
+pub mod TurnLaws
+pub mod EntranceLaws

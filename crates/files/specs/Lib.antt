@@ -1,0 +1,2 @@
+-- The definitions of `files`. Assumes nothing.
+pub mod Names

@@ -1,0 +1,5 @@
+-- The laws of `layout`, in the order in which one reads them. Assumes nothing.
+pub mod ByteLaws
+pub mod HeaderLaws
+pub mod ImageLaws
+pub mod Limits

@@ -1,0 +1,2 @@
+-- The definitions of `parents`. Assumes nothing.
+pub mod Parents

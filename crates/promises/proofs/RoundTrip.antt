@@ -1,0 +1,84 @@
+-- The two sentences of docs/RULES.md, Image, on writing and reading, of all that the contracts of both allow. Assumes nothing.
+use Prim.Native.Nat.{ℕ, _≤_}
+use mathlib.Core.Path.{_≡_, refl, sym, subst, ap, _∙_}
+use mathlib.Core.Logic.{inr}
+use mathlib.Core.List.{List, [], _∷_, _++_}
+use native.Mathlib.Omega.{arith}
+use lib.ListN.{length, take, drop}
+use lib.Seq.{take-at}
+use Rattle.table.specs.Table.{Below, Table, size, SoundTable}
+use Rattle.table.specs.Numbers.{roomFor, countedDemands}
+use Rattle.table.specs.Lent.{fronts}
+use Rattle.table.specs.Verdict.{AllMet}
+use Rattle.table.proofs.VerdictLaws.{goes-on, verdict-unique}
+use Rattle.table.proofs.Accepted.{counted-meets}
+use Rattle.layout.specs.Image.{imageLength, imageOf, verticesOf, edgesOf, tableOf}
+use Rattle.layout.proofs.ImageLaws.{image-length}
+use Rattle.image.specs.declared.header.Sizes.{Sizes}
+use Rattle.image.specs.Contracts.{headerDemands, bodyDemands, Read}
+use Rattle.image.proofs.ReadLaws.{read-met, read-table, table-sound}
+use Rattle.writing.specs.declared.Extent.{Extent}
+use Rattle.writing.specs.Writing.{imageRoom, Written}
+use Rattle.writing.proofs.WriteLaws.{written-sound}
+use Rattle.promises.specs.RoundTrip.{TableBack, ImageBack}
+use Rattle.promises.proofs.TableBack.{vertices-back, edges-back, table-back, image-met}
+use Rattle.promises.proofs.ImageBack.{image-back}
+
+-- the image of a well-formed table is read, with room
+pub image-read : {table lent after : Table} {answer : Sizes} → SoundTable table → roomFor (size (table .rows)) (length (table .rows .targets)) lent .met
+    → Read (imageOf table) lent after answer → answer .number ≡ 0
+image-read {table} {lent} {after} {answer} sound room read =
+    let image = imageOf table in
+    let n-back : verticesOf image ≡ size (table .rows) = vertices-back table sound in
+    let m-back : edgesOf image ≡ length (table .rows .targets) = edges-back table sound in
+    let asked = roomFor (verticesOf image) (edgesOf image) lent in
+    verdict-unique (headerDemands image ++ bodyDemands image ++ asked ∷ []) (answer .number) 0 (read .verdict)
+    (goes-on (headerDemands image ++ bodyDemands image) (asked ∷ []) 0 (image-met table sound) (inr (omega arith, refl)))
+
+-- a well-formed table is written, with room
+pub table-written : {table : Table} {slice image : List ℕ} {answer : Extent} → SoundTable table
+    → imageLength (size (table .rows)) (length (table .rows .targets)) ≤ length slice → Written table slice image answer → answer .number ≡ 0
+table-written {table} {slice} {image} {answer} sound room written =
+    verdict-unique (countedDemands table ++ imageRoom (table .rows) slice ∷ []) (answer .number) 0 (written .verdict)
+    (goes-on (countedDemands table) (imageRoom (table .rows) slice ∷ []) 0 (counted-meets table sound) (inr (room, refl)))
+
+-- writing an accepted table and reading it, with room, gives the table back
+pub written-then-read : {table : Table} {slice image : List ℕ} {written : Extent} → Written table slice image written → written .number ≡ 0
+    → {lent after : Table} {answer : Sizes} → roomFor (size (table .rows)) (length (table .rows .targets)) lent .met
+    → Read (take (written .length) image) lent after answer → TableBack table after answer
+written-then-read {table} {slice} {image} {written} w e {lent} {after} {answer} room r =
+    let sound : SoundTable table = written-sound w e in
+    let whole = imageOf table in
+    let long : length whole ≡ written .length = image-length table sound ∙ sym (w .taken e .0) in
+    let front : take (written .length) image ≡ whole
+    = ap (take (written .length)) (w .taken e .1) ∙ take-at whole (drop (written .length) slice) (written .length) long in
+    let read : Read whole lent after answer = subst (λ (x : List ℕ). Read x lent after answer) front r in
+    let zero = image-read sound room read in
+    record {
+      accepted-again = zero;
+      same-n = read .taken zero .0 ∙ vertices-back table sound;
+      same-m = read .taken zero .1 ∙ edges-back table sound;
+      same-table = read-table read zero ∙ table-back table sound;
+    }
+
+-- an accepted image, read and written, with room, gives the same bytes
+pub read-then-written : {image : List ℕ} {lent after : Table} {read : Sizes} → Below 256 image → Read image lent after read → read .number ≡ 0
+    → {slice out : List ℕ} {answer : Extent} → length image ≤ length slice → Written (fronts (read .vertices) (read .edges) after) slice out answer
+    → ImageBack image out answer
+read-then-written {image} {lent} {after} {read} bytes r e {slice} {out} {answer} room w =
+    let met : AllMet (headerDemands image ++ bodyDemands image) = read-met r e in
+    let table = tableOf image in
+    let sound : SoundTable table = table-sound image met in
+    let written : Written table slice out answer = subst (λ (t : Table). Written t slice out answer) (read-table r e) w in
+    let back : imageOf table ≡ image = image-back image met bytes in
+    let long : length image ≡ imageLength (size (table .rows)) (length (table .rows .targets)) = ap length (sym back) ∙ image-length table sound in
+    let zero = table-written sound (omega (arith, long)) written in
+    let fit : answer .length ≡ length image = written .taken zero .0 ∙ sym long in
+    record {
+      accepted-again = zero;
+      same-length = fit;
+      same-bytes =
+          ap (take (answer .length)) (written .taken zero .1)
+          ∙ take-at (imageOf table) (drop (answer .length) slice) (answer .length) (ap length back ∙ sym fit)
+          ∙ back;
+    }

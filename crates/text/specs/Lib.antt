@@ -1,0 +1,2 @@
+-- The definitions of `text`. Assumes nothing.
+pub mod Buffer

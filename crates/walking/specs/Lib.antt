@@ -1,0 +1,2 @@
+-- The definitions of `walking`. Assumes nothing.
+pub mod Walking

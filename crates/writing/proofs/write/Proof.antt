@@ -1,0 +1,147 @@
+-- `writing::write` meets its contract: the table's check, room, and header, starts, targets and counts one after the other. Assumes nothing.
+use mathlib.Core.Path.{refl}
+use native.Mathlib.Omega.{arith}
+use Rattle.table.specs.Verdict.{Verdict}
+use Rattle.table.specs.Table.{Table, SoundTable}
+use Rattle.table.specs.Numbers.{countedDemands}
+use Rattle.table.proofs.Accepted.{counted}
+use Rattle.writing.specs.Writing.{imageRoom}
+use Rattle.writing.proofs.WriteLaws.{image-whole, write-refused-by-table, write-refused-by-room, write-taken}
+use borrow.Author.Needs.{needs}
+use Rattle.writing.proofs.write.Statement.{statement}
+use Rattle.writing.proofs.write.Tie as tie
+
+-- The places that the needs look back to, each seen from a place nearer to them.
+abbrev entry : tie.Else1 → tie.Start
+entry c = c .before .before .before .before .before .before
+
+abbrev has-room : tie.After-write-words2 → tie.Else2
+has-room c = c .before .before .before .before .before .before .before .before .before .before
+
+abbrev headed : tie.After-write-words2 → tie.After-put
+headed c = c .before .before .before .before .before .before .before .before
+
+abbrev started : tie.After-write-words2 → tie.After-write-words
+started c = c .before .before .before .before
+
+-- the table that is handed in, and that it is accepted
+abbrev handed : tie.Else1 → Table
+handed c =
+    let args = entry c .args in
+    record { rows = record { starts = args .starts .now; targets = args .targets .now }; counts = args .counts .now }
+
+accepted : (c : tie.Else1) → Verdict (countedDemands (handed c)) 0
+accepted c = rw (c .if1 .left) at (c .before .check-counted .ensures)
+
+sound : (c : tie.Else1) → SoundTable (handed c)
+sound c = counted (handed c) (accepted c)
+
+check-counted-requires : tie.Need-check-counted-requires
+check-counted-requires c κs = search needs
+
+refused-requires : tie.Need-refused-requires
+refused-requires c κs = search needs
+
+returns : tie.Need-returns
+returns c = write-refused-by-table (c .before .before .check-counted .result) (c .before .if1 .taken) (c .before .before .check-counted .ensures) (c .refused .ensures)
+
+sub-n : tie.Need-sub-n
+sub-n c = omega (arith, sound c)
+
+cast-length : tie.Need-cast-length
+cast-length c = omega (arith, sound c)
+
+cast-length-2 : tie.Need-cast-length-2
+cast-length-2 c = omega (arith, sound c)
+
+length-requires : tie.Need-length-requires
+length-requires c κs = search needs
+
+refused-requires-2 : tie.Need-refused-requires-2
+refused-requires-2 c κs = search needs
+
+returns-2 : tie.Need-returns-2
+returns-2 c = write-refused-by-room (accepted (c .before .before .before)) (λ room. omega (arith, room, c .before .before .length .ensures)) (c .refused2 .ensures)
+
+cast-t14 : tie.Need-cast-t14
+cast-t14 c = omega (arith, sound (c .before .before))
+
+cast-t15 : tie.Need-cast-t15
+cast-t15 c = omega (arith, sound (c .before .before))
+
+add-targets-at : tie.Need-add-targets-at
+add-targets-at c = search needs
+
+mul-targets-at : tie.Need-mul-targets-at
+mul-targets-at c = search needs
+
+add-targets-at-2 : tie.Need-add-targets-at-2
+add-targets-at-2 c = search needs
+
+mul-counts-at : tie.Need-mul-counts-at
+mul-counts-at c = search needs
+
+add-counts-at : tie.Need-add-counts-at
+add-counts-at c = search needs
+
+put-requires : tie.Need-put-requires
+put-requires c κs = search needs
+
+write-words-requires : tie.Need-write-words-requires
+write-words-requires c κs = search needs
+
+write-words-requires-2 : tie.Need-write-words-requires-2
+write-words-requires-2 c κs = search needs
+
+write-longs-requires : tie.Need-write-longs-requires
+write-longs-requires c κs = let written = c .before .before .before in
+    let room = has-room written in
+    omega (
+      arith,
+      sound (room .before .before),
+      room .before .length .ensures,
+      room .if2 .left,
+      headed written .put .kept .1 .0,
+      started written .write-words .kept .1 .0,
+      written .write-words2 .kept .1 .0,
+    )
+
+same-length : tie.Need-same-length
+same-length c = search needs
+
+returns-3 : tie.Need-returns-3
+returns-3 c = let whole = c .before .before in
+    let written = whole .before .before .before .before in
+    let room = has-room written in
+    let start = room .before .before in
+    let fits : imageRoom (handed start .rows) (entry start .args .image .now) .met = omega (arith, room .before .length .ensures, room .if2 .left) in
+    write-taken refl (accepted start) fits (room .before .length .ensures)
+    (image-whole (handed start) (entry start .args .image .now) (sound start) fits (headed written .put .ensures) (started written .write-words .ensures)
+    (written .write-words2 .ensures) (whole .write-longs .ensures))
+
+pub write-spec : {M : Type 1} → statement M
+write-spec =
+    tie.close
+    (tie.spec
+    check-counted-requires
+    refused-requires
+    returns
+    sub-n
+    cast-length
+    cast-length-2
+    length-requires
+    refused-requires-2
+    returns-2
+    cast-t14
+    cast-t15
+    add-targets-at
+    mul-targets-at
+    add-targets-at-2
+    mul-counts-at
+    add-counts-at
+    put-requires
+    write-words-requires
+    write-words-requires-2
+    write-longs-requires
+    same-length
+    returns-3)

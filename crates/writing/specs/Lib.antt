@@ -1,0 +1,2 @@
+-- The definitions of `writing`. Assumes nothing.
+pub mod Writing
