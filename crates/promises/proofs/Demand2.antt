@@ -31,6 +31,7 @@ use Rattle.rule.specs.Way.{the-fold}
 use Rattle.rule.proofs.Ends.{budget-zero}
 use Rattle.rule.proofs.SameTable.{same-tables}
 use Rattle.rule.proofs.TheFold.{the-fold-lawful}
+use Rattle.promises.specs.Lines.{lines}
 use Rattle.promises.specs.Calls.{Foldable, FoldCall}
 use Rattle.promises.proofs.AnyWay.{call-accepted, call-by-rule, call-edges, call-rest}
 
@@ -45,29 +46,25 @@ module _ {rows : Rows} {out out′ : List ℕ} {answer : Found} (ok : Sound rows
       verdict-unique (tableDemands rows ++ listRoom rows out ∷ []) (answer .number) 0 (done .verdict)
       (goes-on (tableDemands rows) (listRoom rows out ∷ []) 0 (asked-of-rows ok) (inr (room, refl)))
 
-  -- its lines, at the front of the slice
-  abbrev pub lines : List ℕ
-  lines = take (2 * answer .found) out′
-
-  lines-are : lines ≡ done .taken list-accepted .pairs
+  lines-are : lines answer out′ ≡ done .taken list-accepted .pairs
   lines-are =
       let at = done .taken list-accepted in
       ap (take (2 * answer .found)) (at .front) ∙ take-at (at .pairs) (drop (2 * answer .found) out) (2 * answer .found) (at .listed .long)
 
   -- the front of the slice holds it,
-  pub listed : Listed (Superbubble (edges rows)) lines (answer .found)
+  pub listed : Listed (Superbubble (edges rows)) (lines answer out′) (answer .found)
   listed = rw lines-are (done .taken list-accepted .listed)
 
   -- exactly the ordered pairs that meet the published definition,
-  pub list-exact : (s t : ℕ) → Stands lines (answer .found) s t ↔ Superbubble (edges rows) s t
+  pub list-exact : (s t : ℕ) → Stands (lines answer out′) (answer .found) s t ↔ Superbubble (edges rows) s t
   list-exact s t = (λ line. rw (← line .entrance, ← line .exit) (listed .sound (line .line) (line .within)), listed .whole s t)
 
   -- by rising entrance,
-  pub list-rising : (i : ℕ) → i + 1 < answer .found → getD lines (2 * i) 0 < getD lines (2 * (i + 1)) 0
+  pub list-rising : (i : ℕ) → i + 1 < answer .found → getD (lines answer out′) (2 * i) 0 < getD (lines answer out′) (2 * (i + 1)) 0
   list-rising = listed .rising
 
   -- at most n of them.
-  entrance-late : (i : ℕ) → i < answer .found → i ≤ getD lines (2 * i) 0
+  entrance-late : (i : ℕ) → i < answer .found → i ≤ getD (lines answer out′) (2 * i) 0
   entrance-late zero h = omega arith
   entrance-late (suc i) h = rw (← add-one i) (let before = entrance-late i (omega arith) in let rise = list-rising i (omega arith) in omega arith)
 
@@ -82,7 +79,7 @@ module _ {rows : Rows} {out out′ : List ℕ} {answer : Found} (ok : Sound rows
           omega arith
 
   -- What stands behind the list is as it was.
-  pub list-rest : out′ ≡ lines ++ drop (2 * answer .found) out
+  pub list-rest : out′ ≡ lines answer out′ ++ drop (2 * answer .found) out
   list-rest = done .taken list-accepted .front ∙ ap (λ (l : List ℕ). l ++ drop (2 * answer .found) out) (sym lines-are)
 
 as-printed : (g : Example) → RightlyListed g → AsPrinted g

@@ -1,4 +1,5 @@
 -- The words of the promises. Assumes nothing.
 pub mod Images
+pub mod Lines
 pub mod RoundTrip
 pub mod Calls
