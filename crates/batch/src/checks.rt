@@ -1,9 +1,10 @@
 // The operation `t`: the check of a table.
 ghost use Prim.Native.Nat.{_≤_};
 ghost use lib.ListN.{length};
-ghost use Rattle.text.specs.Buffer.{Place};
+ghost use Rattle.batch.specs.Buffer.{Place};
 use crate::bodies::Lent;
 use crate::bodies::lay;
+use crate::output;
 use crate::puts::put_named;
 use crate::step::Step;
 use crate::step::answered;
@@ -34,18 +35,18 @@ fn check_both(lent: Lent, words: &[u32], counts: &[u64]) -> Checked
 }
 
 // Puts both numbers.
-fn put_checked(out: &mut [u8; text::BUFFER], at: usize, checked: Checked) -> usize
+fn put_checked(out: &mut [u8; output::BUFFER], at: usize, checked: Checked) -> usize
     requires { ⌜ Place at ⌝ }
     ensures { λ r. ⌜ Place r ⌝ }
 {
     let mut place = put_named(out, at, b"check", checked.without);
     place = put_named(out, place, b" counted", checked.counted);
-    text::byte(out, place, b'\n')
+    output::byte(out, place, b'\n')
 }
 
 // The operation `t`: three lengths, then starts, targets and counts.
 pub fn check_case(
-    out: &mut [u8; text::BUFFER],
+    out: &mut [u8; output::BUFFER],
     at: usize,
     body: &[u8],
     words: &mut [u32],

@@ -1,7 +1,7 @@
 // The operation `f`: a table folded.
 ghost use Prim.Native.Nat.{_≤_};
 ghost use lib.ListN.{length};
-ghost use Rattle.text.specs.Buffer.{Place};
+ghost use Rattle.batch.specs.Buffer.{Place};
 use crate::bodies::Lent;
 use crate::bodies::Room;
 use crate::bodies::lay;
@@ -9,6 +9,7 @@ use crate::bodies::rooms;
 use crate::bytes::number;
 use crate::most::EDGES;
 use crate::most::VERTICES;
+use crate::output;
 use crate::puts::put_head;
 use crate::puts::put_slices;
 use crate::step::Step;
@@ -17,7 +18,7 @@ use crate::step::bad_case;
 
 // Folds a table into the second set of slices, and puts the answer and these as the call left them.
 fn put_folded(
-    out: &mut [u8; text::BUFFER],
+    out: &mut [u8; output::BUFFER],
     at: usize,
     budget: u32,
     starts: &[u32],
@@ -32,14 +33,14 @@ fn put_folded(
 {
     let folded = folding::fold(starts, targets, counts, budget, starts2, targets2, counts2);
     let mut place = put_head(out, at, b"fold", folded.number, folded.folded);
-    place = text::next_number(out, place, folded.left as u64);
-    place = text::next_number(out, place, folded.edges as u64);
+    place = output::next_number(out, place, folded.left as u64);
+    place = output::next_number(out, place, folded.edges as u64);
     put_slices(out, place, starts2, targets2, counts2)
 }
 
 // Lends to it the table, and so much of the second set as the rooms say.
 fn fold_rooms(
-    out: &mut [u8; text::BUFFER],
+    out: &mut [u8; output::BUFFER],
     at: usize,
     budget: u32,
     room: Room,
@@ -82,7 +83,7 @@ fn fold_rooms(
 
 // The operation `f`: the budget, the rooms of the second set of slices, whose numbers are all 7, three lengths, then starts, targets and counts.
 pub fn fold_case(
-    out: &mut [u8; text::BUFFER],
+    out: &mut [u8; output::BUFFER],
     at: usize,
     body: &[u8],
     words: &mut [u32],

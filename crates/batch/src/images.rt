@@ -1,7 +1,7 @@
 // The operations `s`, `w` and `r`: an image shown, written and read.
 ghost use Prim.Native.Nat.{_≤_};
 ghost use lib.ListN.{length};
-ghost use Rattle.text.specs.Buffer.{Place};
+ghost use Rattle.batch.specs.Buffer.{Place};
 use crate::bodies::Lent;
 use crate::bodies::Room;
 use crate::bodies::lay;
@@ -10,6 +10,7 @@ use crate::bytes::number;
 use crate::most::EDGES;
 use crate::most::IMAGE;
 use crate::most::VERTICES;
+use crate::output;
 use crate::puts::put_head;
 use crate::puts::put_slices;
 use crate::step::Step;
@@ -18,23 +19,22 @@ use crate::step::bad_case;
 use layout::Header;
 
 // The operation `s`: a stream.
-pub fn show_case(out: &mut [u8; text::BUFFER], at: usize, body: &[u8]) -> Step
+pub fn show_case(out: &mut [u8; output::BUFFER], at: usize, body: &[u8]) -> Step
     requires { ⌜ Place at ⌝ }
     ensures { λ r. ⌜ Place (r .place) ⌝ }
 {
     if body.len() > Header::STREAM {
         return bad_case(out, at);
     }
-    let mut starts = [0u32; VERTICES];
-    let mut targets = [0u32; EDGES];
-    let mut counts = [0u64; VERTICES];
-    let answer = report::show_with(out, at, body, &mut starts, &mut targets, &mut counts);
-    answered(answer.place)
+    let mut text = [0u8; show_bytes::LONGEST];
+    let answer = show_bytes::answer(body, &mut text);
+    let length = answer.length;
+    answered(output::word(out, at, &text[..length]))
 }
 
 // Writes the image of a table into so much of the slice as the room says, and puts the answer and that much as the call left it.
 fn put_written(
-    out: &mut [u8; text::BUFFER],
+    out: &mut [u8; output::BUFFER],
     at: usize,
     room: usize,
     lent: Lent,
@@ -61,14 +61,14 @@ fn put_written(
         &mut image[..room],
     );
     let mut place = put_head(out, at, b"wrote", extent.number, extent.length);
-    place = text::byte(out, place, b'\n');
-    place = text::word(out, place, &image[0..room]);
-    text::byte(out, place, b'\n')
+    place = output::byte(out, place, b'\n');
+    place = output::word(out, place, &image[0..room]);
+    output::byte(out, place, b'\n')
 }
 
 // The operation `w`: the room of the image slice, whose bytes are all 165, three lengths, then starts, targets and counts.
 pub fn write_case(
-    out: &mut [u8; text::BUFFER],
+    out: &mut [u8; output::BUFFER],
     at: usize,
     body: &[u8],
     words: &mut [u32],
@@ -88,7 +88,7 @@ pub fn write_case(
 
 // Reads an image into so much of the slices as the rooms say, and puts the answer and that much as the call left it.
 fn put_read(
-    out: &mut [u8; text::BUFFER],
+    out: &mut [u8; output::BUFFER],
     at: usize,
     stream: &[u8],
     room: Room,
@@ -114,12 +114,12 @@ fn put_read(
         &mut counts[..c],
     );
     let place = put_head(out, at, b"read", sizes.number, sizes.vertices);
-    let end = text::next_number(out, place, sizes.edges as u64);
+    let end = output::next_number(out, place, sizes.edges as u64);
     put_slices(out, end, &starts[0..a], &targets[0..b], &counts[0..c])
 }
 
 // The operation `r`: the rooms of the three slices, whose numbers are all 7, then a stream.
-pub fn read_case(out: &mut [u8; text::BUFFER], at: usize, body: &[u8]) -> Step
+pub fn read_case(out: &mut [u8; output::BUFFER], at: usize, body: &[u8]) -> Step
     requires { ⌜ Place at ⌝ }
     ensures { λ r. ⌜ Place (r .place) ⌝ }
 {

@@ -1,11 +1,12 @@
 // The operations `l` and `j`: the superbubbles of a table listed, and one pair judged.
 ghost use Prim.Native.Nat.{_≤_};
 ghost use lib.ListN.{length};
-ghost use Rattle.text.specs.Buffer.{Place};
+ghost use Rattle.batch.specs.Buffer.{Place};
 use crate::bodies::Lent;
 use crate::bodies::lay_rows;
 use crate::bytes::number;
 use crate::most::LIST;
+use crate::output;
 use crate::puts::put_head;
 use crate::puts::put_words;
 use crate::step::Step;
@@ -14,7 +15,7 @@ use crate::step::bad_case;
 
 // Lists the superbubbles of a table into so much of the slice as the room says, and puts the answer and that much as the call left it.
 fn put_listed(
-    out: &mut [u8; text::BUFFER],
+    out: &mut [u8; output::BUFFER],
     at: usize,
     room: usize,
     lent: Lent,
@@ -33,13 +34,13 @@ fn put_listed(
     let e = lent.rows;
     let listed = listing::list(&words[0..a], &words[a..e], &mut list[..room]);
     let mut place = put_head(out, at, b"list", listed.number, listed.found);
-    place = text::byte(out, place, b'\n');
+    place = output::byte(out, place, b'\n');
     place = put_words(out, place, &list[0..room]);
-    text::byte(out, place, b'\n')
+    output::byte(out, place, b'\n')
 }
 
 // The operation `l`: the room of the list slice, whose numbers are all 7, two lengths, then starts and targets.
-pub fn list_case(out: &mut [u8; text::BUFFER], at: usize, body: &[u8], words: &mut [u32]) -> Step
+pub fn list_case(out: &mut [u8; output::BUFFER], at: usize, body: &[u8], words: &mut [u32]) -> Step
     requires { ⌜ Place at ⌝ }
     ensures { λ r. ⌜ Place (r .place) ⌝ }
 {
@@ -62,17 +63,17 @@ fn judge_lent(lent: Lent, words: &[u32], s: u32, t: u32) -> judging::Judgement
 }
 
 // Puts what judging answered.
-fn put_judged(out: &mut [u8; text::BUFFER], at: usize, judged: judging::Judgement) -> usize
+fn put_judged(out: &mut [u8; output::BUFFER], at: usize, judged: judging::Judgement) -> usize
     requires { ⌜ Place at ⌝ }
     ensures { λ r. ⌜ Place r ⌝ }
 {
     let mut place = put_head(out, at, b"judge", judged.number, judged.yes as usize);
-    place = text::next_number(out, place, judged.size as u64);
-    text::byte(out, place, b'\n')
+    place = output::next_number(out, place, judged.size as u64);
+    output::byte(out, place, b'\n')
 }
 
 // The operation `j`: the pair, two lengths, then starts and targets.
-pub fn judge_case(out: &mut [u8; text::BUFFER], at: usize, body: &[u8], words: &mut [u32]) -> Step
+pub fn judge_case(out: &mut [u8; output::BUFFER], at: usize, body: &[u8], words: &mut [u32]) -> Step
     requires { ⌜ Place at ⌝ }
     ensures { λ r. ⌜ Place (r .place) ⌝ }
 {

@@ -1,6 +1,7 @@
 // Answers many cases in one run, for the comparison with the second program.
 //
-// A case is one byte, the operation; 32 bits, the length of the body; and the body. All numbers are little-endian. A case that is cut off, has an unknown operation, or a body that does not fit its operation ends the run with the line `bad case`.
+// A case is one byte, the operation; 32 bits, the length of the body; and the body. All numbers are little-endian. A case that is cut off, has an unknown operation, or a body
+// that does not fit its operation ends the run with the line `bad case`.
 mod bodies;
 mod bytes;
 mod checks;
@@ -8,13 +9,14 @@ mod folds;
 mod images;
 mod lists;
 mod most;
+mod output;
 mod puts;
 mod step;
 
 ghost use Prim.Native.Nat.{_≤_, _<_};
 ghost use mathlib.Core.Path.{_≡_};
 ghost use lib.ListN.{length};
-ghost use Rattle.text.specs.Buffer.{Place};
+ghost use Rattle.batch.specs.Buffer.{Place};
 use bytes::number;
 use checks::check_case;
 use folds::fold_case;
@@ -90,7 +92,7 @@ fn next_case(body: &mut [u8]) -> Case
 
 // Answers a case.
 fn answer(
-    out: &mut [u8; text::BUFFER],
+    out: &mut [u8; output::BUFFER],
     at: usize,
     operation: u8,
     body: &[u8],
@@ -114,7 +116,7 @@ fn answer(
 
 // Reads and answers one case, or finds the input at its end.
 fn one_case(
-    out: &mut [u8; text::BUFFER],
+    out: &mut [u8; output::BUFFER],
     at: usize,
     body: &mut [u8],
     words: &mut [u32],
@@ -139,8 +141,22 @@ fn turns_left(turns: u64, more: bool) -> u64
     if more { turns - 1 } else { 0 }
 }
 
+// Writes out what is left, and says so where it could not be written.
+fn finish(out: &[u8; output::BUFFER], at: usize)
+    requires { ⌜ Place at ⌝ }
+{
+    if !output::flush(out, at) {
+        messages::unprinted();
+    }
+}
+
 // Answers every case, and writes out what is left. A proved loop has to end, and nothing says that the input does: so it counts its turns down, from a number that no run uses up.
-fn all_cases(out: &mut [u8; text::BUFFER], body: &mut [u8], words: &mut [u32], counts: &mut [u64]) {
+fn all_cases(
+    out: &mut [u8; output::BUFFER],
+    body: &mut [u8],
+    words: &mut [u32],
+    counts: &mut [u64],
+) {
     let mut turns = u64::MAX;
     let mut at = 0;
     while turns > 0 {
@@ -148,7 +164,7 @@ fn all_cases(out: &mut [u8; text::BUFFER], body: &mut [u8], words: &mut [u32], c
         at = step.place;
         turns = turns_left(turns, step.more);
     }
-    report::print(out, report::accepted(at));
+    finish(out, at);
 }
 
 fn main() {

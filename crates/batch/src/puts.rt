@@ -1,19 +1,20 @@
 // What a case puts into the output: the line of its answer, and all numbers of the slices lent.
 ghost use Prim.Native.Nat.{_≤_};
-ghost use Rattle.text.specs.Buffer.{Place};
+ghost use Rattle.batch.specs.Buffer.{Place};
+use crate::output;
 
 // Puts a name and a number.
-pub fn put_named(out: &mut [u8; text::BUFFER], at: usize, name: &[u8], number: u32) -> usize
+pub fn put_named(out: &mut [u8; output::BUFFER], at: usize, name: &[u8], number: u32) -> usize
     requires { ⌜ Place at ⌝ }
     ensures { λ r. ⌜ Place r ⌝ }
 {
-    let place = text::word(out, at, name);
-    text::next_number(out, place, number as u64)
+    let place = output::word(out, at, name);
+    output::next_number(out, place, number as u64)
 }
 
 // Puts the name of an answer, its number, and the number that follows.
 pub fn put_head(
-    out: &mut [u8; text::BUFFER],
+    out: &mut [u8; output::BUFFER],
     at: usize,
     name: &[u8],
     number: u32,
@@ -23,22 +24,22 @@ pub fn put_head(
     ensures { λ r. ⌜ Place r ⌝ }
 {
     let place = put_named(out, at, name, number);
-    text::next_number(out, place, next as u64)
+    output::next_number(out, place, next as u64)
 }
 
 // Puts a number in four bytes.
-fn put_word(out: &mut [u8; text::BUFFER], at: usize, x: u64) -> usize
+fn put_word(out: &mut [u8; output::BUFFER], at: usize, x: u64) -> usize
     requires { ⌜ Place at ⌝ }
     ensures { λ r. ⌜ Place r ⌝ }
 {
-    let mut place = text::byte(out, at, (x % 256) as u8);
-    place = text::byte(out, place, (x / 256 % 256) as u8);
-    place = text::byte(out, place, (x / 65_536 % 256) as u8);
-    text::byte(out, place, (x / 16_777_216 % 256) as u8)
+    let mut place = output::byte(out, at, (x % 256) as u8);
+    place = output::byte(out, place, (x / 256 % 256) as u8);
+    place = output::byte(out, place, (x / 65_536 % 256) as u8);
+    output::byte(out, place, (x / 16_777_216 % 256) as u8)
 }
 
 // Puts each number in four bytes.
-pub fn put_words(out: &mut [u8; text::BUFFER], at: usize, numbers: &[u32]) -> usize
+pub fn put_words(out: &mut [u8; output::BUFFER], at: usize, numbers: &[u32]) -> usize
     requires { ⌜ Place at ⌝ }
     ensures { λ r. ⌜ Place r ⌝ }
 {
@@ -52,7 +53,7 @@ pub fn put_words(out: &mut [u8; text::BUFFER], at: usize, numbers: &[u32]) -> us
 }
 
 // Puts each number in eight bytes.
-pub fn put_longs(out: &mut [u8; text::BUFFER], at: usize, numbers: &[u64]) -> usize
+pub fn put_longs(out: &mut [u8; output::BUFFER], at: usize, numbers: &[u64]) -> usize
     requires { ⌜ Place at ⌝ }
     ensures { λ r. ⌜ Place r ⌝ }
 {
@@ -69,7 +70,7 @@ pub fn put_longs(out: &mut [u8; text::BUFFER], at: usize, numbers: &[u64]) -> us
 
 // Ends a line, and puts each number of the three slices.
 pub fn put_slices(
-    out: &mut [u8; text::BUFFER],
+    out: &mut [u8; output::BUFFER],
     at: usize,
     starts: &[u32],
     targets: &[u32],
@@ -78,9 +79,9 @@ pub fn put_slices(
     requires { ⌜ Place at ⌝ }
     ensures { λ r. ⌜ Place r ⌝ }
 {
-    let mut place = text::byte(out, at, b'\n');
+    let mut place = output::byte(out, at, b'\n');
     place = put_words(out, place, starts);
     place = put_words(out, place, targets);
     place = put_longs(out, place, counts);
-    text::byte(out, place, b'\n')
+    output::byte(out, place, b'\n')
 }

@@ -1,7 +1,8 @@
 // What a case leaves: whether another may follow, and where the next byte of the output goes.
 ghost use Prim.Native.Nat.{_≤_};
 ghost use mathlib.Core.Path.{_≡_};
-ghost use Rattle.text.specs.Buffer.{Place};
+ghost use Rattle.batch.specs.Buffer.{Place};
+use crate::output;
 
 pub struct Step {
     pub more: bool,
@@ -29,9 +30,9 @@ pub fn last(at: usize) -> Step
 }
 
 // A case that cannot be answered.
-pub fn bad_case(out: &mut [u8; text::BUFFER], at: usize) -> Step
+pub fn bad_case(out: &mut [u8; output::BUFFER], at: usize) -> Step
     requires { ⌜ Place at ⌝ }
     ensures { λ r. ⌜ Place (r .place) ⌝ }
 {
-    last(text::word(out, at, b"bad case\n"))
+    last(output::word(out, at, b"bad case\n"))
 }

@@ -15,7 +15,7 @@ use Rattle.table.proofs.VerdictLaws.{accepted, goes-on, stops, met-is-passed, f
 use Rattle.layout.specs.Image.{imageLength, verticesOf, edgesOf, startsOf, targetsOf, countsOf, tableOf}
 use Rattle.layout.proofs.ImageLaws.{starts-long, targets-long, counts-long}
 use Rattle.image.specs.declared.header.Sizes.{Sizes}
-use Rattle.image.specs.Contracts.{headerDemands, bodyDemands, Laid, HeaderJudged, ImageJudged, Read}
+use Rattle.image.specs.Contracts.{headerDemands, bodyDemands, Laid, HeaderJudged, ImageJudged, TakenIn, Read}
 
 -- what an accepted header says of its image
 pub record HeaderSays (image : List ℕ) (n m : ℕ) : Type 0 where
@@ -129,6 +129,25 @@ module _ {image : List ℕ} {answer : Sizes} (judged : ImageJudged image answer)
 
   pub judged-says : HeaderSays image (answer .vertices) (answer .edges)
   judged-says = says (first-met (headerDemands image) (bodyDemands image) judged-met) (judged .taken e)
+
+module _ {image : List ℕ} {lent : Table} {header answer : Sizes} (h : HeaderJudged image header) where
+  -- nothing is laid out where the header is refused,
+  pub header-untaken : (header .number ≡ 0 → ⊥) → ImageJudged image answer → TakenIn image lent lent answer
+  header-untaken refusal judged =
+      record { judged = judged; header = header .number; header-verdict = h .verdict; laid = λ e. absurd (refusal e); unlaid = λ _. refl }
+
+  -- and the image's table where it is accepted
+  pub header-taken : {after : Table} → header .number ≡ 0 → Laid image (header .vertices) (header .edges) lent after → ImageJudged image answer
+      → TakenIn image lent after answer
+  header-taken e laid judged =
+      let says = header-says h e in
+      record {
+        judged = judged;
+        header = header .number;
+        header-verdict = h .verdict;
+        laid = λ _. rw (← says .vertices, ← says .edges) laid;
+        unlaid = λ refusal. absurd (refusal e);
+      }
 
 module _ {image : List ℕ} {lent : Table} {answer : Sizes} where
   -- an image that is refused leaves every slice as it was

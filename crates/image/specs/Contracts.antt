@@ -41,6 +41,10 @@ abbrev pub bodyDemands : List ℕ → List Demand
 bodyDemands image =
     startsFit (tableOf image .rows) ∷ targetsBelow (tableOf image .rows) ∷ rowsRise (tableOf image .rows) ∷ sumFits (tableOf image) ∷ []
 
+-- 10, 11, 1, 2, 12, 3, 4, 5, 7: what is asked of an image
+abbrev pub imageDemands : List ℕ → List Demand
+imageDemands image = headerDemands image ++ bodyDemands image
+
 -- an image of n and m, and slices with room for its table
 pub record LayRoom (image : List ℕ) (n m : ℕ) (lent : Table) : Type 0 where
   pub few-vertices : n ≤ vertex-limit
@@ -69,14 +73,22 @@ pub record HeaderJudged (image : List ℕ) (answer : Sizes) : Type 0 where
 
 -- what judging an image states: number, n and m
 pub record ImageJudged (image : List ℕ) (answer : Sizes) : Type 0 where
-  pub verdict : Verdict (headerDemands image ++ bodyDemands image) (answer .number)
+  pub verdict : Verdict (imageDemands image) (answer .number)
   pub taken : answer .number ≡ 0 → (answer .vertices ≡ verticesOf image) × (answer .edges ≡ edgesOf image)
   pub refused : (answer .number ≡ 0 → ⊥) → (answer .vertices ≡ 0) × (answer .edges ≡ 0)
 
+-- what taking an image in states, where there is room for any table: number, n and m, and the three slices before and after. The table is laid out at their fronts where
+-- the header is accepted, whatever is then found of it; `header` is the number of the header alone
+pub record TakenIn (image : List ℕ) (lent after : Table) (answer : Sizes) : Type 0 where
+  pub judged : ImageJudged image answer
+  pub header : ℕ
+  pub header-verdict : Verdict (headerDemands image) header
+  pub laid : header ≡ 0 → AtFronts (verticesOf image) (edgesOf image) (tableOf image) lent after
+  pub unlaid : (header ≡ 0 → ⊥) → after ≡ lent
+
 -- what reading an image states: number, n and m, and the three slices before and after
 pub record Read (image : List ℕ) (lent after : Table) (answer : Sizes) : Type 0 where
-  pub verdict :
-      Verdict (headerDemands image ++ bodyDemands image ++ roomFor (verticesOf image) (edgesOf image) lent ∷ []) (answer .number)
+  pub verdict : Verdict (imageDemands image ++ roomFor (verticesOf image) (edgesOf image) lent ∷ []) (answer .number)
   pub taken :
       answer .number ≡ 0
       → (answer .vertices ≡ verticesOf image)

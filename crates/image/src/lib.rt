@@ -4,3 +4,4 @@ mod reader;
 
 pub use header::Sizes;
 pub use reader::read;
+pub use reader::take_in;

@@ -1,7 +1,8 @@
 // Reading an image: judged whole first, so that a refusal stores nothing.
+ghost use Prim.Native.Nat.{_≤_};
 ghost use Rattle.table.specs.Limits.{vertex-limit, edge-limit};
 ghost use Rattle.table.specs.Numbers.{roomFor};
-ghost use Rattle.image.specs.Contracts.{LayRoom, Laid, ImageJudged, Read};
+ghost use Rattle.image.specs.Contracts.{LayRoom, Laid, ImageJudged, TakenIn, Read};
 use crate::header::Sizes;
 use crate::header::judge_header;
 use crate::header::refused;
@@ -45,7 +46,7 @@ fn lay(
     read_longs(image, counts_at, n, counts);
 }
 
-// 10, 11, 1, 2, 12, 3, 4, 5, 7, in this order, or 0 with n and m. The table is laid out in the slices lent for it, which are left as they fall.
+// 10, 11, 1, 2, 12, 3, 4, 5, 7, in this order, or 0 with n and m. The table is laid out in the slices lent for it once the header is accepted.
 fn judge_with(image: &[u8], starts: &mut [u32], targets: &mut [u32], counts: &mut [u64]) -> Sizes
     requires { ⌜
         (roomFor
@@ -54,7 +55,14 @@ fn judge_with(image: &[u8], starts: &mut [u32], targets: &mut [u32], counts: &mu
         (record { rows = record { starts = now starts; targets = now targets }; counts = now counts }))
         .met
         ⌝ }
-    ensures { λ r. ⌜ ImageJudged (now (image .entry)) r ⌝ }
+    ensures { λ r.
+        ⌜
+        TakenIn
+        (now (image .entry))
+        (record { rows = record { starts = now (starts .entry); targets = now (targets .entry) }; counts = now (counts .entry) })
+        (record { rows = record { starts = now (starts .exit); targets = now (targets .exit) }; counts = now (counts .exit) })
+        r
+        ⌝ }
 {
     let sizes = judge_header(image);
     if sizes.number != 0 {
@@ -70,7 +78,28 @@ fn judge_with(image: &[u8], starts: &mut [u32], targets: &mut [u32], counts: &mu
     sizes
 }
 
-// The same with slices of its own.
+// Takes an image into arrays that have room for any table: judged as above, and its table at their fronts. The one way in for the programs, which keep nothing there that a refusal
+// had to leave.
+pub fn take_in(
+    image: &[u8],
+    starts: &mut [u32; START_LIMIT],
+    targets: &mut [u32; EDGE_LIMIT],
+    counts: &mut [u64; VERTEX_LIMIT],
+) -> Sizes
+    ensures { λ r.
+        ⌜
+        TakenIn
+        (now (image .entry))
+        (record { rows = record { starts = now (starts .entry); targets = now (targets .entry) }; counts = now (counts .entry) })
+        (record { rows = record { starts = now (starts .exit); targets = now (targets .exit) }; counts = now (counts .exit) })
+        r
+        ⌝ }
+    ensures { λ r. ⌜ (r .vertices ≤ vertex-limit) × (r .edges ≤ edge-limit) ⌝ }
+{
+    judge_with(image, starts, targets, counts)
+}
+
+// Judges an image in arrays of its own.
 fn judge(image: &[u8]) -> Sizes
     ensures { λ r. ⌜ ImageJudged (now (image .entry)) r ⌝ }
 {

@@ -1,11 +1,5 @@
 // Judges one pair of the table that stands in the image on standard input: `judge S T` prints `superbubble N` with N the vertices in U, or `no`, or `refused N`.
-ghost use Prim.Native.Nat.{_≤_};
-ghost use Rattle.text.specs.Buffer.{Place};
 use layout::Header;
-use report::Answer;
-use table::EDGE_LIMIT;
-use table::START_LIMIT;
-use table::VERTEX_LIMIT;
 use words::Numeral;
 
 // What a word says of a vertex.
@@ -24,75 +18,6 @@ fn argument(i: usize, room: &mut [u8]) -> Vertex {
     }
 }
 
-// Puts the answer of a pair.
-fn answer_line(
-    out: &mut [u8; text::BUFFER],
-    starts: &[u32],
-    targets: &[u32],
-    s: u32,
-    t: u32,
-) -> Answer
-    ensures { λ r. ⌜ Place (r .place) ⌝ }
-{
-    let judged = judging::judge(starts, targets, s, t);
-    if judged.number != 0 {
-        return report::refusal(out, 0, judged.number);
-    }
-    if !judged.yes {
-        let place = text::word(out, 0, b"no\n");
-        return report::accepted(place);
-    }
-    let mut place = text::word(out, 0, b"superbubble");
-    place = text::next_number(out, place, judged.size as u64);
-    place = text::byte(out, place, b'\n');
-    report::accepted(place)
-}
-
-// Reads an image into the slices lent, and puts the answer of a pair of its table, or `refused N`.
-fn image_line(
-    out: &mut [u8; text::BUFFER],
-    image: &[u8],
-    starts: &mut [u32],
-    targets: &mut [u32],
-    counts: &mut [u64],
-    s: u32,
-    t: u32,
-) -> Answer
-    ensures { λ r. ⌜ Place (r .place) ⌝ }
-{
-    let sizes = image::read(image, starts, targets, counts);
-    if sizes.number != 0 {
-        return report::refusal(out, 0, sizes.number);
-    }
-    let n = sizes.vertices;
-    let m = sizes.edges;
-    answer_line(out, &starts[..n + 1], &targets[..m], s, t)
-}
-
-// Reads the image on standard input into the room that the words stood in, and prints the answer.
-fn judge_input(s: u32, t: u32, room: &mut [u8]) {
-    let input = files::read(libc::STDIN_FILENO, room, Header::STREAM);
-    if input.error != 0 {
-        messages::unread_input(input.error);
-        return;
-    }
-    let count = input.count;
-    let mut starts = [0u32; START_LIMIT];
-    let mut targets = [0u32; EDGE_LIMIT];
-    let mut counts = [0u64; VERTEX_LIMIT];
-    let mut out = io::buffer();
-    let answer = image_line(
-        &mut out,
-        &room[..count],
-        &mut starts,
-        &mut targets,
-        &mut counts,
-        s,
-        t,
-    );
-    report::print(&out, answer);
-}
-
 // Says how the program is called.
 fn usage() {
     io::write_all(
@@ -101,7 +26,7 @@ fn usage() {
     );
 }
 
-// Takes the two vertices from the arguments and judges the pair.
+// Takes the two vertices from the words, reads the image into the room that these stood in, and prints what `judge_bytes::answer` makes of it.
 fn main() {
     if os::arg_count() != 3 {
         usage();
@@ -116,5 +41,13 @@ fn main() {
         usage();
         return;
     };
-    judge_input(s, t, &mut room);
+    let input = exchange::read_input(&mut room, Header::STREAM);
+    if input.error != 0 {
+        return;
+    }
+    let count = input.count;
+    let mut text = [0u8; judge_bytes::LONGEST];
+    let answer = judge_bytes::answer(&room[..count], s, t, &mut text);
+    let length = answer.length;
+    exchange::print(&text[..length], answer.number);
 }

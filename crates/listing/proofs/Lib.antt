@@ -2,4 +2,5 @@
 pub mod ListLaws
 pub mod ScanLaws
 pub mod DoneLaws
+pub mod SoundList
 pub mod Determined

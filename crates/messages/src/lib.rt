@@ -1,4 +1,4 @@
-// What went wrong with a file, in words on standard error: what the system says of it and what to do, then what was done and how the file stands.
+// What went wrong, in words on standard error: why a table is refused; what the system says of a file and what to do, then what was done and how the file stands.
 use files::Replaced;
 
 // Says some bytes. Where standard error cannot be written there is nowhere left to say it.
@@ -53,6 +53,42 @@ pub fn unread_input(error: i32) {
     say(b"standard input could not be read: ");
     say_error(error);
     say(b"\nthere is no answer\n");
+}
+
+// Says that an answer could not be printed.
+pub fn unprinted() {
+    say(
+        b"standard output could not be written: the answer there is not whole, and not to be used\n",
+    );
+}
+
+// Says that the line of a program could not be printed, and how OUT stands.
+pub fn unprinted_line(program: &[u8], state: &[u8]) {
+    say(b"standard output could not be written\n");
+    say_state(program, state);
+}
+
+// Says why a number refuses, in the words of the table in docs/SHEET.md; nothing where the number is 0.
+pub fn say_refusal(number: u32) {
+    match number {
+        0 => {}
+        1 => say(b"the table has more than 2,048 vertices\n"),
+        2 => say(b"the table has more than 8,192 edges\n"),
+        3 => say(b"the starts don't begin with 0, fall, or don't end with the number of edges\n"),
+        4 => say(b"an edge leads to a vertex that is not there\n"),
+        5 => say(
+            b"a row doesn't rise strictly: an edge stands twice, or the row is out of order\n",
+        ),
+        6 => say(b"the counts are not as many as the vertices\n"),
+        7 => say(b"the counts sum above 1,099,511,627,775\n"),
+        8 => say(b"there is not enough room for the result\n"),
+        9 => say(b"the table has a directed cycle, and a self-loop is one\n"),
+        10 => say(b"the image is shorter than 13 bytes, or does not begin with S B T\n"),
+        11 => say(b"the image has another version than 1\n"),
+        12 => say(b"the image is longer or shorter than its header says\n"),
+        13 => say(b"the table does not have a vertex that was asked for\n"),
+        _ => say(b"there are no words for this number\n"),
+    }
 }
 
 // Says how the file OUT of a program stands.

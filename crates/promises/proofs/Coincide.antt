@@ -1,8 +1,9 @@
--- Two results that a contract allows coincide, for each public function of the library: number, fields and all memory lent. What escapes is in docs/CONTRACTS.md.
+-- Two results that a contract allows coincide, for each public function of the library, and of those from bytes to bytes: number, fields and all memory lent. What escapes
+-- is in docs/CONTRACTS.md.
 -- Working room is left open: the order of a search, the colours of the cycle test, the best sums of a kept path. No result depends on what stood in it: two calls with
 -- different working room coincide. Assumes nothing.
 use Prim.Native.Nat.{ℕ, _<_, _≤_}
-use mathlib.Core.Path.{_≡_, sym, _∙_}
+use mathlib.Core.Path.{_≡_, refl, sym, _∙_}
 use mathlib.Core.Bool.{Bool}
 use mathlib.Core.List.{List}
 use lib.ListN.{getD}
@@ -12,8 +13,8 @@ use Rattle.table.specs.Table.{In, Rises, countSum, Rows, Table, edges}
 use Rattle.table.specs.Numbers.{tableDemands, countedDemands}
 use Rattle.table.proofs.VerdictLaws.{says-unique, verdict-unique}
 use Rattle.image.specs.declared.header.Sizes.{Sizes}
-use Rattle.image.specs.Contracts.{Read}
-use Rattle.image.proofs.Determined.{read-determined}
+use Rattle.image.specs.Contracts.{TakenIn, Read}
+use Rattle.image.proofs.Determined.{read-determined, taken-in-determined}
 use Rattle.writing.specs.declared.Extent.{Extent}
 use Rattle.writing.specs.Writing.{Written}
 use Rattle.writing.proofs.Determined.{write-determined}
@@ -29,10 +30,10 @@ use Rattle.search.proofs.AnswerLaws.{shown, answer-unique}
 use Rattle.bubble.specs.Cycle.{Cyclic}
 use Rattle.listing.specs.declared.Found.{Found}
 use Rattle.listing.specs.Listing.{ListDone}
-use Rattle.listing.proofs.Determined.{list-determined}
+use Rattle.listing.proofs.Determined.{superbubbles-determined, list-determined}
 use Rattle.judging.specs.declared.Judgement.{Judgement}
 use Rattle.judging.specs.Judging.{JudgeDone}
-use Rattle.judging.proofs.Determined.{judge-determined}
+use Rattle.judging.proofs.Determined.{judged-determined, judge-determined}
 use Rattle.candidates.specs.Candidates.{FindDone}
 use Rattle.candidates.proofs.FoundLaws.{found-determined}
 use Rattle.kept.specs.Keeping.{KeptDone}
@@ -48,6 +49,16 @@ use Rattle.rule.proofs.TheFold.{the-fold-lawful}
 use Rattle.folding.specs.declared.folds.Folded.{Folded}
 use Rattle.folding.specs.Folding.{FoldDone}
 use Rattle.folding.proofs.Demand.{fold-determined}
+use Rattle.texts.specs.Text.{text, refusalLines, listLines, judgementLines}
+use Rattle.printing.specs.declared.Answer.{Answer}
+use Rattle.printing.specs.Put.{AtFront, Put}
+use Rattle.printing.proofs.Determined.{bytes-put-determined, front-determined, answered-determined}
+use Rattle.show_bytes.specs.Show.{ShowAnswer}
+use Rattle.list_bytes.specs.Lines.{ListAnswer}
+use Rattle.judge_bytes.specs.Line.{JudgeAnswer}
+use Rattle.fold_bytes.specs.declared.Answers.{Answers}
+use Rattle.fold_bytes.specs.Image.{FoldAnswer}
+use Rattle.promises.proofs.AnyRun.{answers-determined}
 
 -- Where the contract is an equation: `table::row`, `table::stated_limits`, `layout::Header::length`, `largest` and `put`, all that `layout` reads and puts of bytes,
 -- and `parents::copy`.
@@ -160,3 +171,50 @@ write-table-coincides = write-table-determined
 pub fold-coincides : {table lent after₁ after₂ : Table} {budget : ℕ} {answer₁ answer₂ : Folded} → FoldDone the-fold table budget lent after₁ answer₁
     → FoldDone the-fold table budget lent after₂ answer₂ → (answer₁ ≡ answer₂) × (after₁ ≡ after₂)
 fold-coincides = fold-determined the-fold-lawful
+
+-- `printing::word`, `number`, `next_number` and `end_line`
+pub bytes-put-coincide : {before bytes after₁ after₂ : List ℕ} {at end₁ end₂ : ℕ} → Put before at bytes after₁ end₁ → Put before at bytes after₂ end₂
+    → (end₁ ≡ end₂) × (after₁ ≡ after₂)
+bytes-put-coincide = bytes-put-determined
+
+-- `printing::refusal`
+pub refusal-coincides : {out out₁ out₂ : List ℕ} {number : ℕ} {answer₁ answer₂ : Answer}
+    → (answer₁ .number ≡ number) × AtFront (text (refusalLines number)) out out₁ (answer₁ .length)
+    → (answer₂ .number ≡ number) × AtFront (text (refusalLines number)) out out₂ (answer₂ .length)
+    → (answer₁ ≡ answer₂) × (out₁ ≡ out₂)
+refusal-coincides (number₁, at₁) (number₂, at₂) =
+    let numbers = number₁ ∙ sym number₂ in
+    let (ends, outs) = front-determined refl at₁ at₂ in
+    (λ i. record { number = numbers i; length = ends i }, outs)
+
+-- `image::take_in`
+pub take-in-coincides : {image : List ℕ} {lent after₁ after₂ : Table} {answer₁ answer₂ : Sizes} → TakenIn image lent after₁ answer₁ → TakenIn image lent after₂ answer₂
+    → (answer₁ ≡ answer₂) × (after₁ ≡ after₂)
+take-in-coincides = taken-in-determined
+
+-- `show_bytes::answer`
+pub show-answers-coincide : (image : List ℕ) {out out₁ out₂ : List ℕ} {answer₁ answer₂ : Answer} → ShowAnswer image out out₁ answer₁ → ShowAnswer image out out₂ answer₂
+    → (answer₁ ≡ answer₂) × (out₁ ≡ out₂)
+show-answers-coincide image = answered-determined (λ printed₁ printed₂ a b. a ∙ sym b)
+
+-- `list_bytes::answer`
+pub list-answers-coincide : (image : List ℕ) {out out₁ out₂ : List ℕ} {answer₁ answer₂ : Answer} → ListAnswer image out out₁ answer₁ → ListAnswer image out out₂ answer₂
+    → (answer₁ ≡ answer₂) × (out₁ ≡ out₂)
+list-answers-coincide image =
+    answered-determined
+    (λ printed₁ printed₂ a b. let (many, pairs) = superbubbles-determined (a .listed) (b .listed) in
+    a .spelled ∙ (λ i. text (listLines (pairs i) (many i))) ∙ sym (b .spelled))
+
+-- `judge_bytes::answer`
+pub judge-answers-coincide : (image : List ℕ) {s t : ℕ} {out out₁ out₂ : List ℕ} {answer₁ answer₂ : Answer} → JudgeAnswer image s t out out₁ answer₁
+    → JudgeAnswer image s t out out₂ answer₂ → (answer₁ ≡ answer₂) × (out₁ ≡ out₂)
+judge-answers-coincide image =
+    answered-determined
+    (λ printed₁ printed₂ a b. let (answers, sizes) = judged-determined (a .judged) (b .judged) in
+    a .spelled ∙ (λ i. text (judgementLines (answers i) (sizes i))) ∙ sym (b .spelled))
+
+-- `fold_bytes::answer`
+pub fold-answers-coincide : (image : List ℕ) {out out₁ out₂ new new₁ new₂ : List ℕ} {budget : ℕ} {answers₁ answers₂ : Answers}
+    → FoldAnswer the-fold image budget out out₁ new new₁ answers₁ → FoldAnswer the-fold image budget out out₂ new new₂ answers₂
+    → (answers₁ ≡ answers₂) × (out₁ ≡ out₂) × (new₁ ≡ new₂)
+fold-answers-coincide = answers-determined the-fold-lawful

@@ -1,5 +1,5 @@
 -- Each demand behind a number is decided on any content, so that every table, image and room is given a number. Assumes nothing.
-use Prim.Native.Nat.{ℕ, zero, suc, _+_, _-_, _≤_, _<_}
+use Prim.Native.Nat.{ℕ, zero, suc, _+_, _-_, _<_}
 use mathlib.Core.Path.{_≡_, refl, ap, ap₂}
 use mathlib.Core.Logic.{inl, inr}
 use mathlib.Core.List.{List, [], _∷_, _++_}
@@ -8,11 +8,11 @@ use native.Mathlib.Decide.{ℕ-discrete, decLe, decLt, map-dec}
 use lib.ListN.{length, getD, take, drop}
 use Rattle.table.specs.Verdict.{Demand, Verdict, AllMet}
 use Rattle.table.specs.Limits.{vertex-limit, start-limit, edge-limit, read-limit}
-use Rattle.table.specs.Table.{vertices, row, Edge, Rises, Below, StartsFit, RowsRise, countSum, Rows, Table, size, edges, Sound}
+use Rattle.table.specs.Table.{vertices, row, Rises, Below, StartsFit, RowsRise, countSum, Rows, Table, size, edges, Sound}
 use Rattle.table.specs.Numbers.{tableDemands, countDemands, roomFor}
 use Rattle.table.proofs.RowLaws.{edges-below}
 use Rattle.layout.specs.Image.{mark, imageLength, versionOf, verticesOf, edgesOf, tableOf}
-use Rattle.image.specs.Contracts.{headerDemands, bodyDemands}
+use Rattle.image.specs.Contracts.{headerDemands, bodyDemands, imageDemands}
 use Rattle.bubble.proofs.Reflect.{decided, decides-test}
 use Rattle.bubble.proofs.Closure.{decides-closure}
 use Rattle.bubble.proofs.Walks.{walk-first}
@@ -115,7 +115,7 @@ pub counts-decided : (table : Table) → DecidedInTurn (countDemands table)
 counts-decided table = (ℕ-discrete (length (table .counts)) (size (table .rows)), λ _. (decLe (countSum (table .counts)) read-limit, λ _. tt))
 
 -- 10, 11, 1, 2, 12,
-pub header-decided : (image : List ℕ) → DecidedInTurn (headerDemands image)
+header-decided : (image : List ℕ) → DecidedInTurn (headerDemands image)
 header-decided image = (
   both (decLe 13 (length image)) (same-decided (take 3 image) mark),
   λ _. (
@@ -128,10 +128,14 @@ header-decided image = (
 )
 
 -- 3, 4, 5, 7 of the table in an image,
-pub body-decided : (image : List ℕ) → DecidedInTurn (bodyDemands image)
+body-decided : (image : List ℕ) → DecidedInTurn (bodyDemands image)
 body-decided image =
     let rows = tableOf image .rows in
     (fit-decided rows, λ _. (targets-decided rows, λ _. (rows-decided (rows .starts) (rows .targets), λ _. (decLe (countSum (tableOf image .counts)) read-limit, λ _. tt))))
+
+-- and so all that is asked of an image,
+pub image-decided : (image : List ℕ) → DecidedInTurn (imageDemands image)
+image-decided image = decided-then (headerDemands image) (bodyDemands image) (header-decided image) (λ _. body-decided image)
 
 -- 8, of the three slices that a table is written to,
 pub room-decided : (n m : ℕ) (lent : Table) → Dec (roomFor n m lent .met)

@@ -1,5 +1,5 @@
 -- Demand 1: a table or image of any content gets an answer; bad ones are refused by number, on the tool's own checking; and a refusal changes no buffer. Assumes nothing.
-use Prim.Native.Nat.{ℕ, _+_, _*_}
+use Prim.Native.Nat.{ℕ, _*_}
 use mathlib.Core.Path.{_≡_, refl, sym, _∙_}
 use mathlib.Core.Logic.{inl, inr}
 use mathlib.Core.Bool.{false}
@@ -11,10 +11,10 @@ use Rattle.table.specs.Table.{Below, Rows, Table, size, edges, Sound, SoundTabl
 use Rattle.table.specs.Numbers.{tableDemands, countDemands, countedDemands, roomFor}
 use Rattle.table.proofs.VerdictLaws.{goes-on, stops, verdict-unique}
 use Rattle.table.proofs.Accepted.{well-formed, counted, met-counted, counted-meets}
-use Rattle.layout.specs.Image.{imageLength, verticesOf, edgesOf, tableOf}
+use Rattle.layout.specs.Image.{imageLength, verticesOf, edgesOf}
 use Rattle.image.specs.declared.header.Sizes.{Sizes}
-use Rattle.image.specs.Contracts.{headerDemands, bodyDemands, Read}
-use Rattle.image.proofs.ReadLaws.{table-sound, read-met}
+use Rattle.image.specs.Contracts.{imageDemands, Read}
+use Rattle.image.proofs.ReadLaws.{read-met}
 use Rattle.writing.specs.declared.Extent.{Extent}
 use Rattle.writing.specs.Writing.{imageRoom, Written}
 use Rattle.bubble.specs.Cycle.{Cyclic}
@@ -26,8 +26,8 @@ use Rattle.rule.specs.Way.{noCycle, the-fold}
 use Rattle.folding.specs.declared.folds.Folded.{Folded}
 use Rattle.folding.specs.Folding.{foldRoom, foldDemands, FoldDone}
 use Rattle.promises.specs.Images.{GoodImage}
-use Rattle.promises.proofs.Decided.{DecidedInTurn, gives-number, decided-then, both, table-decided, counts-decided, header-decided, body-decided, room-decided, acyclic-decided}
-use Rattle.promises.proofs.ImageBack.{image-back}
+use Rattle.promises.proofs.Decided.{DecidedInTurn, gives-number, decided-then, both, table-decided, counts-decided, image-decided, room-decided, acyclic-decided}
+use Rattle.promises.proofs.GoodImages.{met-good}
 
 -- A table of any content gets an answer: the check has a number for it, without counts and with them,
 pub check-answers : (rows : Rows) → (number : ℕ) × Verdict (tableDemands rows) number
@@ -70,12 +70,11 @@ write-answers table image =
 
 -- An image of any content gets an answer.
 pub read-answers : (image : List ℕ) (lent : Table)
-    → (number : ℕ) × Verdict (headerDemands image ++ bodyDemands image ++ roomFor (verticesOf image) (edgesOf image) lent ∷ []) number
+    → (number : ℕ) × Verdict (imageDemands image ++ roomFor (verticesOf image) (edgesOf image) lent ∷ []) number
 read-answers image lent =
     let room = roomFor (verticesOf image) (edgesOf image) lent in
-    gives-number (headerDemands image ++ bodyDemands image ++ room ∷ [])
-    (decided-then (headerDemands image) (bodyDemands image ++ room ∷ []) (header-decided image)
-    (λ _. decided-then (bodyDemands image) (room ∷ []) (body-decided image) (λ _. (room-decided (verticesOf image) (edgesOf image) lent, λ _. tt))))
+    gives-number (imageDemands image ++ room ∷ [])
+    (decided-then (imageDemands image) (room ∷ []) (image-decided image) (λ _. (room-decided (verticesOf image) (edgesOf image) lent, λ _. tt)))
 
 -- Bad ones are refused by number: a table that is not well-formed, without its counts and with them, by the checks
 pub bad-table-refused : (rows : Rows) (number : ℕ) → (Sound rows → ⊥) → Verdict (tableDemands rows) number → number ≡ 0 → ⊥
@@ -123,9 +122,7 @@ write-refuses-bad {table} {image} {image′} {answer} bad done =
 
 -- and bytes that are the image of no well-formed table
 pub bad-image-refused : {image : List ℕ} {lent after : Table} {answer : Sizes} → Below 256 image → (GoodImage image → ⊥) → Read image lent after answer → answer .number ≡ 0 → ⊥
-bad-image-refused {image} bytes bad read e =
-    let met = read-met read e in
-    bad (record { table = tableOf image; sound = table-sound image met; bytes = sym (image-back image met bytes) })
+bad-image-refused bytes bad read e = bad (met-good bytes (read-met read e))
 
 -- A refusal changes no buffer she has lent, and returns 0 in every other field: list,
 pub list-refusal : {rows : Rows} {out out′ : List ℕ} {answer : Found} → ListDone rows out out′ answer → (answer .number ≡ 0 → ⊥) → (out′ ≡ out) × (answer .found ≡ 0)

@@ -1,13 +1,10 @@
 -- Demand 2: the list holds exactly the ordered pairs that meet the published definition, by rising entrance, for any well-formed directed table, cycles included;
 -- and the fold changes exactly what its rule says (docs/RULES.md, Fold). Assumes nothing.
-use Prim.Native.Nat.{ℕ, zero, suc, _+_, _*_, _≤_, _<_}
+use Prim.Native.Nat.{ℕ, _+_, _*_, _≤_, _<_}
 use mathlib.Core.Path.{_≡_, refl, sym, ap, _∙_}
 use mathlib.Core.Logic.{_↔_, inr}
 use mathlib.Core.List.{List, [], _∷_, _++_}
-use native.Mathlib.Omega.{arith}
-use native.Mathlib.Numerals.{add-one}
-use lib.ListN.{length, getD, take, drop, length-map}
-use lib.Seq.{take-at}
+use lib.ListN.{length, getD, drop, length-map}
 use Rattle.table.specs.Table.{Rows, Table, size, edges, Sound}
 use Rattle.table.specs.Verdict.{AllMet}
 use Rattle.table.specs.Numbers.{tableDemands}
@@ -16,12 +13,12 @@ use Rattle.table.proofs.VerdictLaws.{goes-on, verdict-unique}
 use Rattle.table.proofs.Accepted.{table-met, well-formed-accepted}
 use Rattle.table.proofs.RowLaws.{edges-below}
 use Rattle.bubble.specs.Superbubble.{Superbubble}
-use Rattle.bubble.proofs.Number.{entrance-below}
 use Rattle.bubble.proofs.Unique.{exit-unique}
 use Rattle.listing.specs.declared.Found.{Found}
-use Rattle.listing.specs.Listing.{Stands, Listed, listRoom, ListDone}
-use Rattle.listing.specs.Graphs.{Example, flat, graphs, RightlyListed, AsPrinted, Each}
+use Rattle.listing.specs.Listing.{Stands, Listed, ListDone}
+use Rattle.listing.specs.Graphs.{Example, graphs, RightlyListed, AsPrinted, Each}
 use Rattle.listing.proofs.ListLaws.{listed-determined}
+use Rattle.listing.proofs.SoundList.{sound-accepted, front-is-list, front-listed, listed-most}
 use Rattle.promises.proofs.TwelveGraphs.{twelve-graphs}
 use Rattle.judging.specs.declared.Judgement.{Judgement}
 use Rattle.judging.specs.Judging.{pairInside, Judged, JudgeDone}
@@ -42,18 +39,11 @@ asked-of-rows {rows} ok = table-met rows (well-formed-accepted rows ok)
 module _ {rows : Rows} {out out′ : List ℕ} {answer : Found} (ok : Sound rows) (room : 2 * size rows ≤ length out) (done : ListDone rows out out′ answer) where
   -- Any well-formed table with room for its list gets its list:
   pub list-accepted : answer .number ≡ 0
-  list-accepted =
-      verdict-unique (tableDemands rows ++ listRoom rows out ∷ []) (answer .number) 0 (done .verdict)
-      (goes-on (tableDemands rows) (listRoom rows out ∷ []) 0 (asked-of-rows ok) (inr (room, refl)))
-
-  lines-are : lines answer out′ ≡ done .taken list-accepted .pairs
-  lines-are =
-      let at = done .taken list-accepted in
-      ap (take (2 * answer .found)) (at .front) ∙ take-at (at .pairs) (drop (2 * answer .found) out) (2 * answer .found) (at .listed .long)
+  list-accepted = sound-accepted ok room done
 
   -- the front of the slice holds it,
   pub listed : Listed (Superbubble (edges rows)) (lines answer out′) (answer .found)
-  listed = rw lines-are (done .taken list-accepted .listed)
+  listed = front-listed (done .taken list-accepted)
 
   -- exactly the ordered pairs that meet the published definition,
   pub list-exact : (s t : ℕ) → Stands (lines answer out′) (answer .found) s t ↔ Superbubble (edges rows) s t
@@ -64,30 +54,19 @@ module _ {rows : Rows} {out out′ : List ℕ} {answer : Found} (ok : Sound rows
   list-rising = listed .rising
 
   -- at most n of them.
-  entrance-late : (i : ℕ) → i < answer .found → i ≤ getD (lines answer out′) (2 * i) 0
-  entrance-late zero h = omega arith
-  entrance-late (suc i) h = rw (← add-one i) (let before = entrance-late i (omega arith) in let rise = list-rising i (omega arith) in omega arith)
-
   pub list-most : answer .found ≤ size rows
-  list-most = most (answer .found) refl
-    where
-      most : (k : ℕ) → k ≡ answer .found → k ≤ size rows
-      most zero e = omega arith
-      most (suc i) e =
-          let late = entrance-late i (omega arith) in
-          let below = entrance-below (edges-below ok) (listed .sound i (omega arith) .bubbloid) in
-          omega arith
+  list-most = listed-most (edges-below ok) listed
 
   -- What stands behind the list is as it was.
   pub list-rest : out′ ≡ lines answer out′ ++ drop (2 * answer .found) out
-  list-rest = done .taken list-accepted .front ∙ ap (λ (l : List ℕ). l ++ drop (2 * answer .found) out) (sym lines-are)
+  list-rest = done .taken list-accepted .front ∙ ap (λ (l : List ℕ). l ++ drop (2 * answer .found) out) (sym (front-is-list (done .taken list-accepted)))
 
 as-printed : (g : Example) → RightlyListed g → AsPrinted g
 as-printed g (ok, printed) out out′ answer room done =
     let accepted = list-accepted ok room done in
     let at = done .taken accepted in
     let (many, pairs) = listed-determined (at .listed) printed (λ s t u p q. exit-unique p q) in
-    (accepted, many, lines-are ok room done ∙ pairs)
+    (accepted, many, front-is-list at ∙ pairs)
 
 each-as-printed : (l : List Example) → Each RightlyListed l → Each AsPrinted l
 each-as-printed [] all = tt

@@ -7,19 +7,18 @@ use native.Mathlib.Omega.{arith}
 use lib.ListN.{length, take, drop}
 use lib.Seq.{take-at}
 use Rattle.table.specs.Table.{Below, Table, size, SoundTable}
-use Rattle.table.specs.Numbers.{roomFor, countedDemands}
+use Rattle.table.specs.Numbers.{roomFor}
 use Rattle.table.specs.Lent.{fronts}
 use Rattle.table.specs.Verdict.{AllMet}
 use Rattle.table.proofs.VerdictLaws.{goes-on, verdict-unique}
-use Rattle.table.proofs.Accepted.{counted-meets}
 use Rattle.layout.specs.Image.{imageLength, imageOf, verticesOf, edgesOf, tableOf}
 use Rattle.layout.proofs.ImageLaws.{image-length}
 use Rattle.image.specs.declared.header.Sizes.{Sizes}
 use Rattle.image.specs.Contracts.{headerDemands, bodyDemands, Read}
 use Rattle.image.proofs.ReadLaws.{read-met, read-table, table-sound}
 use Rattle.writing.specs.declared.Extent.{Extent}
-use Rattle.writing.specs.Writing.{imageRoom, Written}
-use Rattle.writing.proofs.WriteLaws.{written-sound}
+use Rattle.writing.specs.Writing.{Written}
+use Rattle.writing.proofs.WriteLaws.{table-written, written-sound}
 use Rattle.promises.specs.RoundTrip.{TableBack, ImageBack}
 use Rattle.promises.proofs.TableBack.{vertices-back, edges-back, table-back, image-met}
 use Rattle.promises.proofs.ImageBack.{image-back}
@@ -34,13 +33,6 @@ image-read {table} {lent} {after} {answer} sound room read =
     let asked = roomFor (verticesOf image) (edgesOf image) lent in
     verdict-unique (headerDemands image ++ bodyDemands image ++ asked ∷ []) (answer .number) 0 (read .verdict)
     (goes-on (headerDemands image ++ bodyDemands image) (asked ∷ []) 0 (image-met table sound) (inr (omega arith, refl)))
-
--- a well-formed table is written, with room
-pub table-written : {table : Table} {slice image : List ℕ} {answer : Extent} → SoundTable table
-    → imageLength (size (table .rows)) (length (table .rows .targets)) ≤ length slice → Written table slice image answer → answer .number ≡ 0
-table-written {table} {slice} {image} {answer} sound room written =
-    verdict-unique (countedDemands table ++ imageRoom (table .rows) slice ∷ []) (answer .number) 0 (written .verdict)
-    (goes-on (countedDemands table) (imageRoom (table .rows) slice ∷ []) 0 (counted-meets table sound) (inr (room, refl)))
 
 -- writing an accepted table and reading it, with room, gives the table back
 pub written-then-read : {table : Table} {slice image : List ℕ} {written : Extent} → Written table slice image written → written .number ≡ 0

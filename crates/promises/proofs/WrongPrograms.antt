@@ -2,7 +2,7 @@
 use Prim.Native.Nat.{ℕ, _-_, _*_, _≤_, _<_, min}
 use mathlib.Core.Path.{_≡_, refl, ap, _∙_}
 use mathlib.Core.Logic.{_↔_}
-use mathlib.Core.List.{List, [], _∷_, _++_, List·Memᴰ·head}
+use mathlib.Core.List.{List, [], _∷_, List·Memᴰ·head}
 use native.Mathlib.Omega.{arith}
 use lib.ListN.{length, take, drop, length-drop}
 use Rattle.table.specs.Verdict.{Verdict}
@@ -15,6 +15,7 @@ use Rattle.image.specs.declared.header.Sizes.{Sizes}
 use Rattle.image.specs.Contracts.{Read}
 use Rattle.writing.specs.declared.Extent.{Extent}
 use Rattle.writing.specs.Writing.{Written}
+use Rattle.writing.proofs.WriteLaws.{table-written}
 use Rattle.bubble.specs.Superbubble.{Superbubble}
 use Rattle.bubble.proofs.Unique.{exit-unique}
 use Rattle.listing.specs.declared.Found.{Found}
@@ -29,7 +30,7 @@ use Rattle.rule.proofs.Listings.{listing-unique}
 use Rattle.rule.proofs.Remaining.{remaining-listed, items-number}
 use Rattle.rule.proofs.TheFold.{the-fold-lawful}
 use Rattle.promises.specs.Calls.{Foldable, FoldCall}
-use Rattle.promises.proofs.RoundTrip.{image-read, table-written}
+use Rattle.promises.proofs.RoundTrip.{image-read}
 use Rattle.promises.proofs.Demand2.{list-exact, foldable-kind, fold-by-rule}
 
 -- ---- Refusing everything: a well-formed table is given 0, without its counts and with them;

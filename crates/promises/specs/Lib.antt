@@ -3,3 +3,4 @@ pub mod Images
 pub mod Lines
 pub mod RoundTrip
 pub mod Calls
+pub mod Runs

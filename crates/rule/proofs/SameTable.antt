@@ -1,14 +1,14 @@
 -- Tables and graphs: well-formed tables with as many vertices, the same edges and the same counts are the same, and the sum of the counts is the total over all vertices. Assumes nothing.
-use Prim.Native.Nat.{ℕ, zero, suc, _+_, _-_, _<_}
-use mathlib.Core.Path.{_≡_, refl, sym, _∙_, ap, ap₂}
+use Prim.Native.Nat.{ℕ, suc, _+_, _<_}
+use mathlib.Core.Path.{_≡_, refl, sym, _∙_, ap}
 use mathlib.Core.Logic.{_↔_, ⊎-elim}
-use mathlib.Core.List.{List, [], _∷_, _++_, List·Memᴰ, List·Memᴰ·not-nil, List·Memᴰ·cases-cons, Memᴰ·cast}
+use mathlib.Core.List.{List, [], _∷_, List·Memᴰ, List·Memᴰ·not-nil, List·Memᴰ·cases-cons, Memᴰ·cast}
 use native.Mathlib.Numerals.{add-one}
 use native.Mathlib.Omega.{arith}
-use lib.ListN.{length, take, getD}
-use lib.Seq.{take-length, ext-getD}
+use lib.ListN.{length}
+use lib.Seq.{ext-getD}
 use Rattle.table.specs.Table.{vertices, row, In, Rises, countSum, Rows, Table, edges, Sound}
-use Rattle.table.proofs.RowLaws.{next-start, targets-to-next}
+use Rattle.table.proofs.SameRows.{same-by-row}
 use Rattle.bubble.proofs.Pigeonhole.{getD-in, place-of}
 use Rattle.rule.specs.Lists.{Rising, Rising.empty, Rising.first, total, Same}
 use Rattle.rule.specs.Tables.{count-of}
@@ -44,32 +44,8 @@ module _ {rows rows′ : Rows} (w : Sound rows) (w′ : Sound rows′) (n : leng
       (λ x m. in-list .0 (same v x .0 (record { vertex = h; listed = in-list .1 m }) .listed))
       (λ x m. in-list .0 (same v x .1 (record { vertex = h′; listed = in-list .1 m }) .listed))
 
-  -- the start of v, and the targets before it
-  before : (v : ℕ) → v < length starts → (getD starts v 0 ≡ getD starts′ v 0) × (take (getD starts v 0) targets ≡ take (getD starts′ v 0) targets′)
-  before zero h = let q = w .starts-fit .begins in let q′ = w′ .starts-fit .begins in (q ∙ sym q′, rw (q, q′))
-  before (suc v) h =
-      let (q, r) = before v (omega arith) in
-      let k : v < vertices starts = omega arith in
-      let k′ : v < vertices starts′ = omega arith in
-      let one : getD starts (v + 1) 0 ≡ getD starts′ (v + 1) 0 = next-start w v k ∙ ap₂ _+_ q (ap length (row-same v k)) ∙ sym (next-start w′ v k′) in
-      let two : take (getD starts (v + 1) 0) targets ≡ take (getD starts′ (v + 1) 0) targets′ =
-      targets-to-next w v k ∙ ap₂ _++_ r (row-same v k) ∙ sym (targets-to-next w′ v k′) in
-      (rw add-one at one, rw add-one at two)
-
-  same-starts : starts ≡ starts′
-  same-starts = ext-getD 0 starts starts′ n (λ v h. before v h .0)
-
-  same-targets : targets ≡ targets′
-  same-targets =
-      let some : 0 < length starts = w .some in
-      let (q, r) = before (vertices starts) (omega arith) in
-      let e : getD starts (vertices starts) 0 ≡ length targets = w .starts-fit .ends in
-      let e′ : getD starts′ (vertices starts) 0 ≡ length targets′ = ap (λ (x : ℕ). getD starts′ (x - 1) 0) n ∙ w′ .starts-fit .ends in
-      let all : take (length targets) targets ≡ take (length targets′) targets′ = rw (e, e′) at r in
-      sym (take-length targets) ∙ all ∙ take-length targets′
-
   pub same-rows : rows ≡ rows′
-  same-rows = λ i. record { starts = same-starts i; targets = same-targets i }
+  same-rows = same-by-row w w′ n row-same
 
 pub same-tables : {table table′ : Table} → Sound (table .rows) → Sound (table′ .rows) → length (table .rows .starts) ≡ length (table′ .rows .starts)
     → length (table .counts) ≡ length (table′ .counts)

@@ -61,6 +61,12 @@ met-is-passed [] d rest r met (inr v) = v .1
 met-is-passed (f ∷ first) d rest r met (inl v) = inl v
 met-is-passed (f ∷ first) d rest r met (inr v) = inr (v .0, met-is-passed first d rest r met (v .1))
 
+-- where the first demands are met, they may be left out
+pub met-are-passed : (first rest : List Demand) (r : ℕ) → AllMet first → Verdict (first ++ rest) r → Verdict rest r
+met-are-passed [] rest r met v = v
+met-are-passed (d ∷ first) rest r met (inl v) = absurd (v .0 (met .0))
+met-are-passed (d ∷ first) rest r met (inr v) = met-are-passed first rest r (met .1) (v .1)
+
 -- of demands that are all met, the first ones are
 pub first-met : (first rest : List Demand) → AllMet (first ++ rest) → AllMet first
 first-met [] rest met = tt

@@ -8,8 +8,8 @@ use lib.ListN.{length, drop, length-append}
 use Rattle.table.specs.Verdict.{Verdict}
 use Rattle.table.specs.Table.{Table, size, SoundTable}
 use Rattle.table.specs.Numbers.{countedDemands}
-use Rattle.table.proofs.VerdictLaws.{accepted, goes-on, stops, first-met}
-use Rattle.table.proofs.Accepted.{counted-met, met-counted}
+use Rattle.table.proofs.VerdictLaws.{accepted, goes-on, stops, first-met, verdict-unique}
+use Rattle.table.proofs.Accepted.{counted-met, met-counted, counted-meets}
 use Rattle.layout.specs.Bytes.{spelled, over}
 use Rattle.layout.specs.Image.{headerOf, imageLength, imageOf}
 use Rattle.layout.proofs.ByteLaws.{spelled-length, over-over}
@@ -77,6 +77,13 @@ module _ {table : Table} {image : List ℕ} {answer : Extent} where
         taken = λ _. (long, rw long whole);
         refused = λ wrong. absurd (wrong zero);
       }
+
+-- a well-formed table is written, with room
+pub table-written : {table : Table} {image image′ : List ℕ} {answer : Extent} → SoundTable table
+    → imageLength (size (table .rows)) (length (table .rows .targets)) ≤ length image → Written table image image′ answer → answer .number ≡ 0
+table-written {table} {image} {answer = answer} sound room written =
+    verdict-unique (countedDemands table ++ imageRoom (table .rows) image ∷ []) (answer .number) 0 (written .verdict)
+    (goes-on (countedDemands table) (imageRoom (table .rows) image ∷ []) 0 (counted-meets table sound) (inr (room, refl)))
 
 module _ {table : Table} {image image′ : List ℕ} {answer : Extent} (written : Written table image image′ answer) (e : answer .number ≡ 0) where
   -- a table that was written is well-formed

@@ -1,9 +1,8 @@
 -- `batch::all_cases` is safe and ends. The loop's invariant: the place lies within the buffer, and each slice is as long as it was. The measure is the number of turns that are left. Assumes nothing.
-use Prim.Native.Nat.{_-_, _≤_}
 use mathlib.Core.Path.{_≡_}
 use lib.ListN.{length}
 use borrow.Author.Needs.{needs}
-use Rattle.text.specs.Buffer.{Place}
+use Rattle.batch.specs.Buffer.{Place}
 use Rattle.batch.proofs.all_cases.Statement.{statement}
 use Rattle.batch.proofs.all_cases.Tie as tie
 
@@ -28,11 +27,8 @@ loop-less c = search needs
 loop-again : tie.Need-loop-again Inv-loop μ-loop
 loop-again c = search needs
 
-accepted-requires : tie.Need-accepted-requires Inv-loop μ-loop
-accepted-requires c κs = search needs
-
-print-requires : tie.Need-print-requires Inv-loop μ-loop
-print-requires c κs = search needs
+finish-requires : tie.Need-finish-requires Inv-loop μ-loop
+finish-requires c κs = search needs
 
 same-length : tie.Need-same-length Inv-loop μ-loop
 same-length c = search needs
@@ -57,8 +53,7 @@ all-cases-spec =
     turns-left-requires
     loop-less
     loop-again
-    accepted-requires
-    print-requires
+    finish-requires
     same-length
     same-length-2
     same-length-3

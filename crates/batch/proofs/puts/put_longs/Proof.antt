@@ -2,7 +2,7 @@
 use Prim.Native.Nat.{_-_, _≤_}
 use lib.ListN.{length}
 use borrow.Author.Needs.{needs}
-use Rattle.text.specs.Buffer.{Place}
+use Rattle.batch.specs.Buffer.{Place}
 use Rattle.batch.proofs.puts.put_longs.Statement.{statement}
 use Rattle.batch.proofs.puts.put_longs.Tie as tie
 

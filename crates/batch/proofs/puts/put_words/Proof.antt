@@ -3,7 +3,7 @@ use Prim.Native.Nat.{_-_, _≤_}
 use native.Mathlib.Omega.{arith}
 use lib.ListN.{length}
 use borrow.Author.Needs.{needs}
-use Rattle.text.specs.Buffer.{Place}
+use Rattle.batch.specs.Buffer.{Place}
 use Rattle.batch.proofs.puts.put_words.Statement.{statement}
 use Rattle.batch.proofs.puts.put_words.Tie as tie
 

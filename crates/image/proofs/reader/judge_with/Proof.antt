@@ -8,7 +8,18 @@ use Rattle.table.specs.Table.{Table}
 use Rattle.table.specs.Numbers.{roomFor}
 use Rattle.image.specs.declared.header.Sizes.{Sizes}
 use Rattle.image.specs.Contracts.{bodyDemands}
-use Rattle.image.proofs.ReadLaws.{HeaderSays, header-met, header-says, body-verdict, laid-verdict, judged-by-header, judged-by-table, judged-sound}
+use Rattle.image.proofs.ReadLaws.{
+  HeaderSays,
+  header-met,
+  header-says,
+  body-verdict,
+  laid-verdict,
+  judged-by-header,
+  judged-by-table,
+  judged-sound,
+  header-untaken,
+  header-taken,
+}
 use borrow.Author.Needs.{needs}
 use Rattle.image.proofs.reader.judge_with.Statement.{statement}
 use Rattle.image.proofs.reader.judge_with.Tie as tie
@@ -57,7 +68,7 @@ judge-header-requires : tie.Need-judge-header-requires
 judge-header-requires c κs = search needs
 
 returns : tie.Need-returns
-returns c = judged-by-header (c .if1 .taken) (c .before .before .judge-header .ensures)
+returns c = let judged = c .before .before .judge-header .ensures in header-untaken judged (c .if1 .taken) (judged-by-header (c .if1 .taken) judged)
 
 lay-requires : tie.Need-lay-requires
 lay-requires c κs = omega (arith, header-sound (c .before .before .before), entry (c .before .before .before) .pre)
@@ -104,8 +115,9 @@ same-length-3 c = search needs
 returns-2 : tie.Need-returns-2
 returns-2 c = let checked = c .before .before in
     let start = accepted (laid checked) in
-    judged-by-table (checked .check-counted .result) (c .before .if2 .taken) (header-met (header start .judge-header .ensures) (start .if1 .left))
-    (table-verdict checked) (c .refused .ensures)
+    header-taken (header start .judge-header .ensures) (start .if1 .left) (laid checked .lay .ensures)
+    (judged-by-table (checked .check-counted .result) (c .before .if2 .taken) (header-met (header start .judge-header .ensures) (start .if1 .left))
+    (table-verdict checked) (c .refused .ensures))
 
 same-length-4 : tie.Need-same-length-4
 same-length-4 c = search needs
@@ -118,7 +130,8 @@ same-length-6 c = search needs
 
 returns-3 : tie.Need-returns-3
 returns-3 c = let start = accepted (laid (c .before)) in
-    judged-sound (c .before .check-counted .result) (c .if2 .left) (header start .judge-header .ensures) (start .if1 .left) (table-verdict (c .before))
+    header-taken (header start .judge-header .ensures) (start .if1 .left) (laid (c .before) .lay .ensures)
+    (judged-sound (c .before .check-counted .result) (c .if2 .left) (header start .judge-header .ensures) (start .if1 .left) (table-verdict (c .before)))
 
 pub judge-with-spec : {M : Type 1} → statement M
 judge-with-spec =

@@ -1,0 +1,2 @@
+-- The definitions of `batch`. Assumes nothing.
+pub mod Buffer

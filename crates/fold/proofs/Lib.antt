@@ -1,2 +1,0 @@
--- The laws of `fold`. Assumes nothing.
-pub mod Within

@@ -1,0 +1,181 @@
+-- The line of a fold put word by word, and what fold delivers: of a well-formed table, and of the table in an image, in every lawful way. Assumes nothing.
+use Prim.Native.Nat.{ℕ, _+_, _≤_}
+use mathlib.Core.Path.{_≡_, refl, sym, ap, subst, _∙_}
+use mathlib.Core.List.{List, [], _∷_}
+use native.Mathlib.Omega.{arith}
+use lib.ListN.{length, drop, length-append}
+use lib.Seq.{length-take-le}
+use Rattle.table.specs.Verdict.{Demand, Verdict}
+use Rattle.table.specs.Table.{Table, size, SoundTable}
+use Rattle.table.specs.Numbers.{countedDemands}
+use Rattle.table.specs.Lent.{fronts}
+use Rattle.table.proofs.VerdictLaws.{accepted, goes-on, met-is-passed, met-are-passed}
+use Rattle.table.proofs.Accepted.{counted-meets}
+use Rattle.table.proofs.FrontLaws.{fronts-are}
+use Rattle.layout.specs.Image.{largest-image, tableOf, imageOf}
+use Rattle.layout.proofs.ImageLaws.{image-length}
+use Rattle.layout.proofs.Limits.{length-most}
+use Rattle.image.specs.declared.header.Sizes.{Sizes}
+use Rattle.image.specs.Contracts.{imageDemands, TakenIn}
+use Rattle.image.proofs.TakenLaws.{TakenTable, refusal-stands}
+use Rattle.writing.specs.declared.Extent.{Extent}
+use Rattle.writing.specs.Writing.{Written}
+use Rattle.writing.proofs.WriteLaws.{table-written}
+use Rattle.rule.specs.Way.{Way}
+use Rattle.rule.specs.Laws.{WayLaws}
+use Rattle.rule.specs.Tables.{TableFolded}
+use Rattle.folding.specs.declared.folds.Folded.{Folded}
+use Rattle.folding.specs.Folding.{foldRoom, FoldDone}
+use Rattle.folding.proofs.Demand.{left-accepted}
+use Rattle.texts.specs.Text.{Line, bytes, decimal, text, refusalLines, foldLines}
+use Rattle.printing.specs.Put.{AtFront, Put}
+use Rattle.printing.proofs.PutLaws.{put-nothing, put-first, put-next, put-then, put-text, at-front}
+use Rattle.fold_bytes.specs.declared.Answers.{Answers}
+use Rattle.fold_bytes.specs.Image.{FoldDelivered, FoldAnswer}
+
+-- ---- The line.
+
+-- `folded F left L edges M`
+pub put-folded : (folded left edges : ℕ) {a b c d e f g h : List ℕ} {i j k l m n o : ℕ} → Put a 0 (bytes "folded") b i → Put b i (32 ∷ decimal folded) c j
+    → Put c j (bytes " left") d k → Put d k (32 ∷ decimal left) e l → Put e l (bytes " edges") f m → Put f m (32 ∷ decimal edges) g n
+    → Put g n (10 ∷ []) h o → AtFront (text (foldLines folded left edges)) a h o
+put-folded folded left edges word number word-left number-left word-edges number-edges feed =
+    let f = decimal folded in
+    let l = decimal left in
+    let m = decimal edges in
+    let begins : List (List ℕ) → Line = λ words. record { first = bytes "folded"; others = words } in
+    at-front
+    (put-text [] (begins (f ∷ bytes "left" ∷ l ∷ bytes "edges" ∷ m ∷ [])) put-nothing
+    (put-then
+    (put-next (begins (f ∷ bytes "left" ∷ l ∷ bytes "edges" ∷ [])) m
+    (put-next (begins (f ∷ bytes "left" ∷ l ∷ [])) (bytes "edges")
+    (put-next (begins (f ∷ bytes "left" ∷ [])) l
+    (put-next (begins (f ∷ [])) (bytes "left")
+    (put-next (begins []) f (put-first word) number) word-left) number-left) word-edges) number-edges)
+    feed))
+
+-- ---- A refusal.
+
+-- the line of a refusal, and nothing is written
+pub refusal-delivers : {way : Way} {demands : List Demand} {table : Table} {budget : ℕ} {out out′ new : List ℕ} {answers : Answers} {number : ℕ}
+    → (number ≡ 0 → ⊥) → Verdict demands number
+    → (answers .number ≡ number) × (answers .image ≡ 0) × AtFront (text (refusalLines number)) out out′ (answers .line)
+    → FoldDelivered way demands table budget out out′ new new answers
+refusal-delivers {new = new} {number = number} refusal verdict (same, none, at) =
+    record {
+      printed = text (refusalLines number);
+      written = [];
+      verdict = rw same verdict;
+      taken = λ e. absurd (refusal (sym same ∙ e));
+      refused = λ _. (ap (λ (k : ℕ). text (refusalLines k)) (sym same), refl);
+      line-front = at;
+      image-front = record { long = none; whole = ap (λ (k : ℕ). drop k new) (sym none) };
+    }
+
+-- ---- The fold of a well-formed table.
+
+-- with room, only what the way asks can refuse it
+pub way-decides : {way : Way} {table : Table} {budget : ℕ} {lent after : Table} {answer : Folded} → SoundTable table → foldRoom table lent .met
+    → FoldDone way table budget lent after answer → Verdict (way .asked (table .rows)) (answer .number)
+way-decides {way} {table} {lent = lent} {answer = answer} ok room done =
+    let asked = way .asked (table .rows) in
+    met-is-passed [] (foldRoom table lent) asked (answer .number) room
+    (met-are-passed (countedDemands table) (foldRoom table lent ∷ asked) (answer .number) (counted-meets table ok) (done .verdict))
+
+-- the arrays that an accepted fold was written to: the new table stands at their fronts, well-formed
+pub record LeftTable (way : Way) (table : Table) (budget : ℕ) (after : Table) (answer : Folded) : Type 0 where
+  pub verdict : Verdict (way .asked (table .rows)) 0
+  pub starts-within : size (table .rows) + 1 ≤ length (after .rows .starts)
+  pub targets-within : answer .edges ≤ length (after .rows .targets)
+  pub counts-within : size (table .rows) ≤ length (after .counts)
+  pub table-folded : TableFolded (way .candidates) (way .rule) table budget (fronts (size (table .rows)) (answer .edges) after) (answer .folded) (answer .left)
+  pub sound : SoundTable (fronts (size (table .rows)) (answer .edges) after)
+
+-- an accepted fold leaves them so
+pub fold-leaves : {way : Way} {table : Table} {budget : ℕ} {lent after : Table} {answer : Folded} → WayLaws way → SoundTable table → foldRoom table lent .met
+    → FoldDone way table budget lent after answer → answer .number ≡ 0 → LeftTable way table budget after answer
+fold-leaves {way} {table} {budget} {lent} {after} {answer} laws ok room done e =
+    let n = size (table .rows) in
+    let m = answer .edges in
+    let left = done .taken e in
+    let at = left .at-fronts in
+    let result = left .result in
+    let stays = left .table-folded .same-size in
+    let verdict : Verdict (way .asked (table .rows)) 0 = rw e at (way-decides ok room done) in
+    let kind = laws .asked-kind (table .rows) (accepted (way .asked (table .rows)) (laws .never-zero (table .rows)) verdict) in
+    let same : fronts n m after ≡ result =
+    fronts-are at (omega (arith, stays .as-many-vertices, ok .well-formed)) (sym (left .edge-count)) (omega (arith, stays .as-many-counts, ok .count-each)) in
+    record {
+      verdict = verdict;
+      starts-within =
+          omega (arith, ok .well-formed, ap length (at .starts-front), length-append (result .rows .starts) (drop (n + 1) (lent .rows .starts)), stays .as-many-vertices);
+      targets-within = omega (arith, ap length (at .targets-front), length-append (result .rows .targets) (drop m (lent .rows .targets)), left .edge-count);
+      counts-within =
+          omega (arith, ap length (at .counts-front), length-append (result .counts) (drop n (lent .counts)), stays .as-many-counts, ok .count-each);
+      table-folded =
+          subst (λ (t : Table). TableFolded (way .candidates) (way .rule) table budget t (answer .folded) (answer .left)) (sym same) (left .table-folded);
+      sound = subst SoundTable (sym same) (left-accepted laws ok kind (left .table-folded) .0);
+    }
+
+-- ---- The line and the image of the new table.
+
+-- with room for the largest image, the image of a well-formed table stands at the front
+pub image-at-front : {table : Table} {new new′ : List ℕ} {extent : Extent} → SoundTable table → length new ≡ largest-image → Written table new new′ extent
+    → AtFront (imageOf table) new new′ (extent .length)
+image-at-front {table} {new} {extent = extent} sound long written =
+    let rows = sound .well-formed in
+    let most = length-most (size (table .rows)) (length (table .rows .targets)) (omega (arith, rows)) (rows .most-edges) in
+    let (length-is, whole) = written .taken (table-written sound (omega arith) written) in
+    record { long = length-is ∙ sym (image-length table sound); whole = whole }
+
+-- what an accepted fold delivers
+pub fold-delivers : {way : Way} {table : Table} {budget : ℕ} {after : Table} {answer : Folded} {out out′ new new′ : List ℕ} {answers : Answers}
+    → LeftTable way table budget after answer → answers .number ≡ 0
+    → AtFront (text (foldLines (answer .folded) (answer .left) (answer .edges))) out out′ (answers .line)
+    → AtFront (imageOf (fronts (size (table .rows)) (answer .edges) after)) new new′ (answers .image)
+    → FoldDelivered way (way .asked (table .rows)) table budget out out′ new new′ answers
+fold-delivers {way} {table} {budget} {after} {answer} left none line-front image-front =
+    let result = fronts (size (table .rows)) (answer .edges) after in
+    record {
+      printed = text (foldLines (answer .folded) (answer .left) (answer .edges));
+      written = imageOf result;
+      verdict = rw none (left .verdict);
+      taken = λ _. record {
+        result = result;
+        folded = answer .folded;
+        left = answer .left;
+        table-folded = left .table-folded;
+        spelled =
+            ap (λ (m : ℕ). text (foldLines (answer .folded) (answer .left) m))
+            (sym (length-take-le (answer .edges) (after .rows .targets) (left .targets-within)));
+        image = refl;
+      };
+      refused = λ refusal. absurd (refusal none);
+      line-front = line-front;
+      image-front = image-front;
+    }
+
+-- ---- From the bytes of an image.
+
+-- the line of the refusal of an image
+pub image-refused : {way : Way} {image : List ℕ} {budget : ℕ} {lent after : Table} {sizes : Sizes} {out out′ new : List ℕ} {answers : Answers}
+    → TakenIn image lent after sizes → (sizes .number ≡ 0 → ⊥)
+    → (answers .number ≡ sizes .number) × (answers .image ≡ 0) × AtFront (text (refusalLines (sizes .number))) out out′ (answers .line)
+    → FoldAnswer way image budget out out′ new new answers
+image-refused {way} {image} taken refusal = refusal-delivers refusal (refusal-stands taken refusal (way .asked (tableOf image .rows)))
+
+-- what is delivered of the table of an image that was taken in
+pub image-folded : {way : Way} {image : List ℕ} {after : Table} {n m budget : ℕ} {out out′ new new′ : List ℕ} {answers : Answers} → TakenTable image after n m
+    → FoldDelivered way (way .asked (fronts n m after .rows)) (fronts n m after) budget out out′ new new′ answers
+    → FoldAnswer way image budget out out′ new new′ answers
+image-folded {way} {image} {budget = budget} {out} {out′} {new} {new′} {answers} taken done =
+    let moved = subst (λ (t : Table). FoldDelivered way (way .asked (t .rows)) t budget out out′ new new′ answers) (taken .fronts-are) done in
+    record {
+      printed = moved .printed;
+      written = moved .written;
+      verdict = goes-on (imageDemands image) (way .asked (tableOf image .rows)) (answers .number) (taken .met) (moved .verdict);
+      taken = moved .taken;
+      refused = moved .refused;
+      line-front = moved .line-front;
+      image-front = moved .image-front;
+    }

@@ -1,0 +1,2 @@
+-- The laws of `fold_bytes`. Assumes nothing.
+pub mod FoldLaws

@@ -1,0 +1,2 @@
+-- The definitions of `fold_bytes`. Assumes nothing.
+pub mod Image

@@ -1,0 +1,2 @@
+-- The laws of `judge_bytes`. Assumes nothing.
+pub mod JudgementLaws

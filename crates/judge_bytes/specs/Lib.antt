@@ -1,0 +1,2 @@
+-- The definitions of `judge_bytes`. Assumes nothing.
+pub mod Line

@@ -1,0 +1,2 @@
+-- The definitions of `list_bytes`. Assumes nothing.
+pub mod Lines

@@ -1,0 +1,21 @@
+-- `printing::end_line` meets its contract. Assumes nothing.
+use native.Mathlib.Omega.{arith}
+use borrow.Author.Needs.{needs}
+use Rattle.printing.proofs.PutLaws.{put-byte}
+use Rattle.printing.proofs.end_line.Statement.{statement}
+use Rattle.printing.proofs.end_line.Tie as tie
+
+slice-write-out : tie.Need-slice-write-out
+slice-write-out c = search needs
+
+add-result : tie.Need-add-result
+add-result c = search needs
+
+same-length : tie.Need-same-length
+same-length c = search needs
+
+returns : tie.Need-returns
+returns c = put-byte (c .args .out .now) (c .args .at) 10 (omega (arith, c .pre))
+
+pub end-line-spec : {M : Type 1} → statement M
+end-line-spec = tie.close (tie.spec slice-write-out add-result same-length returns)

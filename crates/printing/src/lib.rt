@@ -1,0 +1,71 @@
+// The text of an answer: words, and numbers in shortest decimal, put at a place of a buffer that has room for them.
+ghost use Prim.Native.Nat.{_+_, _≤_};
+ghost use mathlib.Core.Path.{_≡_};
+ghost use mathlib.Core.List.{[], _∷_};
+ghost use lib.ListN.{length};
+ghost use Rattle.texts.specs.Text.{decimal, text, refusalLines};
+ghost use Rattle.printing.specs.Put.{AtFront, Put};
+
+// What a program answers: the number of a refusal, or 0, and how many bytes of text stand at the front of the buffer.
+pub struct Answer {
+    pub number: u32,
+    pub length: usize,
+}
+
+// Puts the bytes of a word.
+pub fn word(out: &mut [u8], at: usize, bytes: &[u8]) -> usize
+    requires { ⌜ at + length (now bytes) ≤ length (now out) ⌝ }
+    ensures { λ r. ⌜ Put (now (out .entry)) at (now (bytes .entry)) (now (out .exit)) r ⌝ }
+{
+    let mut k = 0;
+    while k < bytes.len() {
+        out[at + k] = bytes[k];
+        k += 1;
+    }
+    at + bytes.len()
+}
+
+// Puts a number in shortest decimal.
+pub fn number(out: &mut [u8], at: usize, x: u64) -> usize
+    requires { ⌜ at + length (decimal x) ≤ length (now out) ⌝ }
+    ensures { λ r. ⌜ Put (now (out .entry)) at (decimal x) (now (out .exit)) r ⌝ }
+{
+    let mut digits = [0u8; 20];
+    let count = io::decimal(x, &mut digits);
+    word(out, at, &digits[..count])
+}
+
+// Puts a blank and a number.
+pub fn next_number(out: &mut [u8], at: usize, x: u64) -> usize
+    requires { ⌜ at + length (32 ∷ decimal x) ≤ length (now out) ⌝ }
+    ensures { λ r. ⌜ Put (now (out .entry)) at (32 ∷ decimal x) (now (out .exit)) r ⌝ }
+{
+    out[at] = b' ';
+    number(out, at + 1, x)
+}
+
+// Puts a line feed.
+pub fn end_line(out: &mut [u8], at: usize) -> usize
+    requires { ⌜ at + 1 ≤ length (now out) ⌝ }
+    ensures { λ r. ⌜ Put (now (out .entry)) at (10 ∷ []) (now (out .exit)) r ⌝ }
+{
+    out[at] = b'\n';
+    at + 1
+}
+
+// Puts the line of a refusal, `refused N`, at the front.
+pub fn refusal(out: &mut [u8], number: u32) -> Answer
+    requires { ⌜ 19 ≤ length (now out) ⌝ }
+    ensures { λ r.
+        ⌜
+        (r .number ≡ number)
+        × AtFront (text (refusalLines number)) (now (out .entry)) (now (out .exit)) (r .length)
+        ⌝ }
+{
+    let mut place = word(out, 0, b"refused");
+    place = next_number(out, place, number as u64);
+    Answer {
+        number,
+        length: end_line(out, place),
+    }
+}

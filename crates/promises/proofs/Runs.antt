@@ -1,0 +1,71 @@
+-- Demand 3 over files: it is safe to run fold twice. Of all that the contract of `fold_bytes` allows: take runs by one or more budgets in turn, each on the bytes that the last
+-- one wrote. A run is one that refuses nothing: on a good image without a directed cycle every run is (`fold-answers-exactly`). The theorems hold for every list of budgets,
+-- so for those whose sum is within a single budget's range. Assumes nothing.
+use Prim.Native.Nat.{ℕ, _≤_}
+use mathlib.Core.Path.{_≡_}
+use mathlib.Core.List.{List}
+use lib.ListN.{length}
+use Rattle.table.specs.Table.{countSum, edges}
+use Rattle.layout.specs.Image.{countsOf, tableOf}
+use Rattle.bubble.specs.Cycle.{Cyclic}
+use Rattle.bubble.specs.Superbubble.{Interior, Superbubble}
+use Rattle.rule.specs.Lists.{Listing}
+use Rattle.rule.specs.Fold.{Candidate, Entrance, budgets-sum}
+use Rattle.rule.specs.Way.{the-fold}
+use Rattle.rule.proofs.TableDemand.{no-interior-left}
+use Rattle.rule.proofs.TheFold.{the-fold-lawful}
+use Rattle.fold_bytes.specs.declared.Answers.{Answers}
+use Rattle.fold_bytes.specs.Image.{FoldAnswer}
+use Rattle.promises.specs.Images.{GoodImage}
+use Rattle.promises.specs.Calls.{Foldable}
+use Rattle.promises.specs.Runs.{FoldRun, RunsInTurn}
+use Rattle.promises.proofs.AnyRun as any
+use Rattle.promises.proofs.Demand3.{first-candidates}
+
+module _ {image image′ budgets : List ℕ} (runs : RunsInTurn the-fold image budgets image′) where
+  -- What they leave is a good image, of a table without a directed cycle,
+  pub runs-leave-good : GoodImage image′
+  runs-leave-good = any.runs-leave the-fold-lawful runs .0
+
+  pub runs-leave-acyclic : Cyclic (edges (tableOf image′ .rows)) → ⊥
+  runs-leave-acyclic = the-fold-lawful .kind-asked (tableOf image′ .rows) (any.runs-leave the-fold-lawful runs .1) .0
+
+  -- so that the next run refuses nothing, whatever its budget: one can always go on.
+  pub next-run-accepted : {out out′ new new′ : List ℕ} {budget : ℕ} {answers : Answers} → FoldAnswer the-fold image′ budget out out′ new new′ answers
+      → answers .number ≡ 0
+  next-run-accepted = let (good, kind) = any.runs-leave the-fold-lawful runs in any.good-accepted the-fold-lawful good kind
+
+  -- One run on the first image refuses nothing, either,
+  pub one-run-accepted : {out out′ new new′ : List ℕ} {budget : ℕ} {answers : Answers} → FoldAnswer the-fold image budget out out′ new new′ answers
+      → answers .number ≡ 0
+  one-run-accepted = any.first-accepted the-fold-lawful runs
+
+  -- and by the sum of the budgets it ends in the same bytes.
+  pub runs-as-one : {image″ : List ℕ} → FoldRun the-fold image (budgets-sum budgets) image″ → image′ ≡ image″
+  runs-as-one = any.runs-in-turn-as-one the-fold-lawful runs
+
+  -- The total of the counts never moves.
+  pub runs-keep-total : countSum (countsOf image′) ≡ countSum (countsOf image)
+  runs-keep-total = any.runs-total-stays the-fold-lawful runs
+
+  first-foldable : Foldable (tableOf image)
+  first-foldable =
+      let (sound, kind) = any.runs-begin the-fold-lawful runs in
+      record { sound = sound; acyclic = the-fold-lawful .kind-asked (tableOf image .rows) kind .0 }
+
+  -- The outermost superbubbles with an interior in the first image's table have a number;
+  pub first-image-candidates : (candidates : List ℕ) × Listing (Entrance Candidate (edges (tableOf image .rows))) candidates
+  first-image-candidates = first-candidates first-foldable
+
+  -- once the budgets reach it,
+  module _ {candidates : List ℕ} (listed : Listing (Entrance Candidate (edges (tableOf image .rows))) candidates)
+      (reached : length candidates ≤ budgets-sum budgets) where
+    -- no superbubble with an interior is left in the table that was written,
+    pub runs-leave-no-interior : (s t : ℕ) → Superbubble (edges (tableOf image′ .rows)) s t → (v : ℕ) → Interior (edges (tableOf image′ .rows)) s t v → ⊥
+    runs-leave-no-interior =
+        let (sound, kind) = any.runs-begin the-fold-lawful runs in
+        no-interior-left sound kind (any.tables-of-runs the-fold-lawful runs) listed reached
+
+    -- and a further run gives back its bytes.
+    pub further-run : {budget : ℕ} {image″ : List ℕ} → FoldRun the-fold image′ budget image″ → image″ ≡ image′
+    further-run = any.further-run-gives-back the-fold-lawful runs listed reached

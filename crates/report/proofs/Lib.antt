@@ -1,2 +1,0 @@
--- The laws of `report`. Assumes nothing.
-pub mod ReadFronts

@@ -1,0 +1,2 @@
+-- The definitions of `show_bytes`. Assumes nothing.
+pub mod Show

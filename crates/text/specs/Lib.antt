@@ -1,2 +1,0 @@
--- The definitions of `text`. Assumes nothing.
-pub mod Buffer

@@ -1,0 +1,49 @@
+-- Texts that the checker works out by itself: three decimals, and for graph J of docs/RULES.md, with the counts of its worked fold, what each program prints. Assumes nothing.
+use Prim.Native.Nat.{ℕ}
+use mathlib.Core.Path.{_≡_, refl}
+use mathlib.Core.Bool.{true, false}
+use mathlib.Core.List.{[], _∷_}
+use Rattle.table.specs.Table.{Table}
+use Rattle.texts.specs.Text.{bytes, decimal, text, refusalLines, tableLines, listLines, judgementLines, foldLines}
+
+least-decimal : decimal 0 ≡ bytes "0"
+unfolding decimal
+least-decimal = refl
+
+last-vertex-decimal : decimal 2047 ≡ bytes "2047"
+unfolding decimal
+last-vertex-decimal = refl
+
+most-reads-decimal : decimal 1099511627775 ≡ bytes "1099511627775"
+unfolding decimal
+most-reads-decimal = refl
+
+abbrev J : Table
+J =
+    record {
+      rows = record { starts = 0 ∷ 2 ∷ 4 ∷ 5 ∷ 6 ∷ 7 ∷ 8 ∷ 8 ∷ []; targets = 1 ∷ 5 ∷ 2 ∷ 3 ∷ 4 ∷ 4 ∷ 6 ∷ 6 ∷ [] };
+      counts = 10 ∷ 4 ∷ 3 ∷ 2 ∷ 4 ∷ 12 ∷ 10 ∷ [];
+    }
+
+table-text : text (tableLines J) ≡ bytes "table 7 8\n0 10 1 5\n1 4 2 3\n2 3 4\n3 2 4\n4 4 6\n5 12 6\n6 10\n"
+unfolding decimal
+table-text = refl
+
+list-text : text (listLines (0 ∷ 6 ∷ 1 ∷ 4 ∷ []) 2) ≡ bytes "superbubbles 2\n0 6\n1 4\n"
+unfolding decimal
+list-text = refl
+
+judgement-text : text (judgementLines true 7) ≡ bytes "superbubble 7\n"
+unfolding decimal
+judgement-text = refl
+
+no-judgement-text : (vertices : ℕ) → text (judgementLines false vertices) ≡ bytes "no\n"
+no-judgement-text vertices = refl
+
+fold-text : text (foldLines 1 0 2) ≡ bytes "folded 1 left 0 edges 2\n"
+unfolding decimal
+fold-text = refl
+
+refusal-text : text (refusalLines 13) ≡ bytes "refused 13\n"
+unfolding decimal
+refusal-text = refl

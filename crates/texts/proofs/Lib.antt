@@ -1,0 +1,10 @@
+-- The laws of texts, in the order in which one reads them. Assumes nothing.
+pub mod All
+pub mod LineLaws
+pub mod EachLaws
+pub mod Decimal
+pub mod Examples
+pub mod Plain
+pub mod Splitting
+pub mod FirstWord
+pub mod Determined

@@ -1,0 +1,2 @@
+-- The definitions of `texts`. Assumes nothing.
+pub mod Text

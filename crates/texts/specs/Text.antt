@@ -1,0 +1,97 @@
+-- The text of each answer, as a list of bytes: numbers in shortest decimal, one blank between words, a line feed at the end of each line. Assumes nothing.
+use Prim.Native.Nat.{ℕ, zero, suc, _+_, _*_, _/_}
+use Prim.Native.Char.{code}
+use Prim.Native.String.{String}
+use Prim.Native.String.{[] as no-letter, _∷_ as letter}
+use mathlib.Core.Bool.{Bool, true, false}
+use mathlib.Core.List.{List, [], _∷_, _++_, map}
+use lib.ListN.{length, getD}
+use lib.Dec.{ltb}
+use Rattle.io.specs.Digits.{digits}
+use Rattle.table.specs.Table.{Table, size, row}
+
+-- ---- Words and lines.
+
+-- the bytes of a word, each letter by its code
+abbrev pub bytes : String → List ℕ
+bytes no-letter = []
+bytes (letter c rest) = code c ∷ bytes rest
+
+-- how many digits a number has: one where it is below 10, else one more than the number without its last digit. The first argument bounds how often that is asked,
+-- and the number itself is bound enough
+abbrev pub places : ℕ → ℕ → ℕ
+places zero n = 1
+places (suc bound) n = elim (ltb n 10) [ true ↦ 1 | false ↦ 1 + places bound (n / 10) ]
+
+-- a number in shortest decimal
+unfoldable pub decimal : ℕ → List ℕ
+decimal n = digits 10 (places n n) n
+
+-- a line: its first word, and those that follow
+pub record Line : Type 0 where
+  pub first : List ℕ
+  pub others : List (List ℕ)
+
+-- words with a blank before each
+abbrev pub following : List (List ℕ) → List ℕ
+following [] = []
+following (word ∷ rest) = (32 ∷ word) ++ following rest
+
+-- a line before its end: one blank between its words
+abbrev pub begun : Line → List ℕ
+begun l = l .first ++ following (l .others)
+
+-- a line, with the line feed at its end
+abbrev pub line : Line → List ℕ
+line l = begun l ++ 10 ∷ []
+
+-- the text of some lines, one behind the other
+abbrev pub text : List Line → List ℕ
+text [] = []
+text (l ∷ rest) = line l ++ text rest
+
+-- a line that begins with a word, and then has numbers
+abbrev pub named : String → List ℕ → Line
+named word numbers = record { first = bytes word; others = map decimal numbers }
+
+-- a line of numbers
+abbrev pub numbered : ℕ → List ℕ → Line
+numbered first numbers = record { first = decimal first; others = map decimal numbers }
+
+-- a line for each number below k
+abbrev pub each : (ℕ → Line) → ℕ → List Line
+each l zero = []
+each l (suc k) = each l k ++ l k ∷ []
+
+-- ---- What is printed.
+
+-- a refusal: `refused N`
+abbrev pub refusalLines : ℕ → List Line
+refusalLines number = named "refused" (number ∷ []) ∷ []
+
+-- the line of vertex v: its number, its count, its successors
+abbrev pub vertexLine : Table → ℕ → Line
+vertexLine table v = numbered v (getD (table .counts) v 0 ∷ row (table .rows .starts) (table .rows .targets) v)
+
+-- a table: `table N M`, and a line for each vertex
+abbrev pub tableLines : Table → List Line
+tableLines table =
+    named "table" (size (table .rows) ∷ length (table .rows .targets) ∷ []) ∷ each (vertexLine table) (size (table .rows))
+
+-- line k of a list: entrance and exit
+abbrev pub pairLine : List ℕ → ℕ → Line
+pairLine pairs k = numbered (getD pairs (2 * k) 0) (getD pairs (2 * k + 1) 0 ∷ [])
+
+-- a list: `superbubbles K`, and a line for each of the K pairs
+abbrev pub listLines : List ℕ → ℕ → List Line
+listLines pairs found = named "superbubbles" (found ∷ []) ∷ each (pairLine pairs) found
+
+-- a judgement: `superbubble N` with the number of vertices, or `no`
+abbrev pub judgementLines : Bool → ℕ → List Line
+judgementLines true vertices = named "superbubble" (vertices ∷ []) ∷ []
+judgementLines false vertices = named "no" [] ∷ []
+
+-- a fold: `folded F left L edges M`
+abbrev pub foldLines : ℕ → ℕ → ℕ → List Line
+foldLines folded left edges =
+    record { first = bytes "folded"; others = decimal folded ∷ bytes "left" ∷ decimal left ∷ bytes "edges" ∷ decimal edges ∷ [] } ∷ []
