@@ -2,12 +2,15 @@
 //! at once, calls fail, standard streams are closed or full, and OUT is a file of any kind.
 //! Whatever comes, OUT is whole, old or new, and what is printed is true.
 //!
-//! - stops.rs, failures.rs, streams.rs, kinds.rs, readers.rs, stack.rs: what may befall them
-//! - traced.rs, calls.rs, story.rs, scene.rs, outcome.rs, folders.rs, checks.rs: how that is done, and
-//!   what is held against it
+//! - stops.rs, failures.rs, streams.rs, kinds.rs, readers.rs, stack.rs, emulated.rs: what may befall
+//!   them
+//! - traced.rs, alone.rs, calls.rs, story.rs, scene.rs, outcome.rs, folders.rs, checks.rs: how that is
+//!   done, and what is held against it
 
+mod alone;
 mod calls;
 mod checks;
+mod emulated;
 mod failures;
 mod folders;
 mod kinds;
@@ -31,13 +34,15 @@ use traced::CAN_TRACE;
 
 /// Tries all. Many programs are started, which is the quicker the less memory this one has.
 pub fn check_all(count: &mut Count) {
-    if !CAN_TRACE {
-        println!("faults: left out, since a program in an emulator cannot be traced");
-        return;
-    }
     let _ = fs::remove_dir_all(FOLDERS);
-    for tried in [of_fold(count), of_readers(count), of_stack(count)] {
-        if let Err(error) = tried {
+    let mut tried = vec![of_each(count)];
+    if CAN_TRACE {
+        tried.extend([of_fold(count), of_readers(count)]);
+    } else {
+        println!("faults: few, since a program in an emulator cannot be traced");
+    }
+    for outcome in tried {
+        if let Err(error) = outcome {
             count.judge("what may befall the programs", Some(error.to_string()));
         }
     }
@@ -102,7 +107,7 @@ fn of_readers(count: &mut Count) -> Judged {
     let [show, list, judge] = ["show", "list", "judge"].map(words_of);
     let [show, list, judge] = [&show?, &list?, &judge?];
     let readers = readers::all(show, list, judge);
-    let unhindered = readers.iter().map(|reader| reader.unhindered()).collect();
+    let unhindered = readers.iter().flat_map(|reader| reader.unhindered()).collect();
     judge_all("runs of show, list and judge that nothing befalls", unhindered, count);
     let mut failures = Vec::new();
     for reader in &readers {
@@ -116,9 +121,12 @@ fn of_readers(count: &mut Count) -> Judged {
     Ok(())
 }
 
-fn of_stack(count: &mut Count) -> Judged {
+fn of_each(count: &mut Count) -> Judged {
     let [show, list, judge, fold] = ["show", "list", "judge", "fold"].map(words_of);
     let programs = [&show?[..], &list?, &judge?, &fold?];
     judge_all("runs with little stack", stack::all(programs), count);
+    if !CAN_TRACE {
+        judge_all("runs whose calls the emulator tells", emulated::all(programs), count);
+    }
     Ok(())
 }

@@ -79,7 +79,7 @@ pub fn unprinted(is_refused: bool) -> String {
     let state = if is_refused {
         "the table is refused; OUT is as it was"
     } else {
-        "the fold is done all the same; OUT is the new table, whole"
+        "it is done all the same; OUT is the new table, whole"
     };
     format!("standard output could not be written\nfold: {state}\n")
 }

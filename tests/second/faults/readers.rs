@@ -17,8 +17,11 @@ use crate::shapes;
 use std::error::Error;
 use std::io;
 
-/// A large image is read in pieces of so many bytes at the most, so that there are some.
+/// A large image is read in pieces of so many bytes at the most, so that there are some,
 const PIECE: u64 = 20_000;
+
+/// and a long answer printed in such.
+const PRINTED_PIECE: u64 = 5_000;
 
 /// A program that reads its standard input, and what it must print.
 pub struct Reader<'a> {
@@ -26,7 +29,7 @@ pub struct Reader<'a> {
     /// The program, by its words.
     program: &'a [String],
     run: ProgramRun,
-    /// How many reads and how many writes there are at least.
+    /// How many reads and how many writes there are at least, in pieces.
     least: [usize; 2],
 }
 
@@ -50,16 +53,22 @@ pub fn all<'a>(show: &'a [String], list: &'a [String], judge: &'a [String]) -> V
 }
 
 impl Reader<'_> {
-    fn run(&self, streams: [Stream; 3], plan: Plan) -> io::Result<Ended> {
-        let start = Start {
+    fn start(&self, streams: [Stream; 3]) -> Start {
+        Start {
             words: [self.program, &self.run.words].concat(),
             folder: ".".into(),
             input: self.run.stream.clone(),
             streams,
             umask: 0o022,
-        };
+        }
+    }
+
+    /// A run in pieces.
+    fn run(&self, streams: [Stream; 3], plan: Plan) -> io::Result<Ended> {
+        let start = self.start(streams);
         traced::run(&start, &mut |place, call| match (plan(place, call), call.deed()) {
             (Action::Do, Deed::Read(0)) => Action::Shorten(PIECE),
+            (Action::Do, Deed::Write(1)) => Action::Shorten(PRINTED_PIECE),
             (action, _) => action,
         })
     }
@@ -75,16 +84,23 @@ impl Reader<'_> {
         demand(is_refused || ended.errors.is_empty(), || format!("it says {:?}", ended.errors))
     }
 
-    /// The calls of a run that nothing befalls must be enough to try something.
-    pub fn unhindered(&self) -> Check<'_> {
-        check(format!("{}, and nothing fails", self.title), move || {
+    /// A run that nothing befalls: the answer is one write; in pieces, the calls must be enough to
+    /// try something.
+    pub fn unhindered(&self) -> Vec<Check<'_>> {
+        let whole = check(format!("{}, and the answer is one write", self.title), move || {
+            let ended = traced::run(&self.start(KEPT), &mut nothing)?;
+            let writes = many(&ended, Deed::Write(1));
+            demand(writes == 1, || format!("so many writes: {writes}"))?;
+            self.demand_answer(&ended)
+        });
+        let in_pieces = check(format!("{}, and nothing fails", self.title), move || {
             let ended = self.run(KEPT, &mut nothing)?;
-            let many = |deed| ended.calls.iter().filter(|call| call.deed() == deed).count();
-            let counts = [many(Deed::Read(0)), many(Deed::Write(1))];
+            let counts = [Deed::Read(0), Deed::Write(1)].map(|deed| many(&ended, deed));
             let enough = counts.iter().zip(self.least).all(|(&count, least)| count >= least);
             demand(enough, || format!("so many reads and writes are too few: {counts:?}"))?;
             self.demand_answer(&ended)
-        })
+        });
+        vec![whole, in_pieces]
     }
 
     /// Each read and each write fails once.
@@ -178,6 +194,11 @@ impl Reader<'_> {
 }
 
 const KEPT: [Stream; 3] = [Stream::Kept; 3];
+
+/// How many calls do this.
+fn many(ended: &Ended, deed: Deed) -> usize {
+    ended.calls.iter().filter(|call| call.deed() == deed).count()
+}
 
 fn demand_not_read(ended: &Ended, error: i64) -> Judged {
     demand_none(difference(b"", &ended.output))?;

@@ -1,62 +1,76 @@
 //! The stack that each program needs, as docs/SHEET.md states it: the programs are run with no more.
 
+use crate::faults::alone::{is_emulated, ran, with_words};
 use crate::faults::checks::{check, demand, demand_none, Check};
-use crate::faults::folders::{Entry, Files, Folder};
 use crate::image;
 use crate::parts::difference;
 use crate::runs::ProgramRun;
 use crate::shapes;
 use crate::sheet;
-use std::fs::File;
-use std::process::{Command, Stdio};
+use std::io;
+use std::process::Output;
 
 /// The programs' stack in KB.
-const SHOW_AND_LIST: u32 = 256;
-const JUDGE: u32 = 320;
+const READERS: u32 = 256;
 const FOLD: u32 = 640;
+
+/// No program makes do with so little: that it fails shows that the limit is felt.
+const TOO_LITTLE: u32 = 128;
 
 fn stated() -> Check<'static> {
     check("docs/SHEET.md states the stack".to_string(), || {
-        let words = format!(
-            "{SHOW_AND_LIST} KB (`show`, `list`), {JUDGE} KB (`judge`) and {FOLD} KB (`fold`)"
-        );
+        let words = format!("{READERS} KB (`show`, `list`, `judge`) and {FOLD} KB (`fold`)");
         demand(sheet::has(&words), || format!("it does not say {words}"))
     })
 }
 
-/// A program by its words, run with so many KB of stack.
-fn limited<'a>(program: &'a [String], run: ProgramRun, kilobytes: u32) -> Check<'a> {
+/// Runs a program with so many KB of stack. The emulator takes that by a word of its own: the shell's
+/// limit is not that of the program which it runs.
+fn limited(program: &[String], run: &ProgramRun, kilobytes: u32) -> io::Result<Output> {
+    let bytes = (1_024 * kilobytes).to_string();
+    let own: &[&str] = if is_emulated(program) { &["-s", &bytes] } else { &[] };
+    let limit = format!("ulimit -s {kilobytes} && exec \"$@\"");
+    let shell = ["sh", "-c", &limit, "sh"].map(str::to_string);
+    ran(&[&shell[..], &with_words(program, own)].concat(), run)
+}
+
+fn enough<'a>(program: &'a [String], run: ProgramRun, kilobytes: u32) -> Check<'a> {
     let title = format!("{} with {kilobytes} KB of stack", run.command());
     check(title, move || {
-        let stream = if run.stream.is_empty() { &run.before[0].1 } else { &run.stream };
-        let files = Files::from([("in.sbt".to_string(), Entry::file(0o644, stream.clone()))]);
-        let folder = Folder::with(&files)?;
-        let done = Command::new("sh")
-            .args(["-c", &format!("ulimit -s {kilobytes} && exec \"$@\""), "sh"])
-            .args(program)
-            .args(&run.words)
-            .current_dir(folder.path(""))
-            .env_clear()
-            .env("PATH", "/usr/bin:/bin")
-            .stdin(Stdio::from(File::open(folder.path("in.sbt"))?))
-            .output()?;
+        let done = limited(program, &run, kilobytes)?;
         demand(done.status.success(), || format!("it ended so: {}", done.status))?;
         demand_none(difference(run.text().as_bytes(), &done.stdout))
     })
 }
 
+fn too_little<'a>(program: &'a [String], run: ProgramRun) -> Check<'a> {
+    let title = format!("{} with {TOO_LITTLE} KB of stack, which is too little", run.command());
+    check(title, move || {
+        let done = limited(program, &run, TOO_LITTLE)?;
+        demand(!done.status.success(), || "it runs all the same".to_string())
+    })
+}
+
 /// Each program, by its words, on its largest tables: the most edges, and the longest path.
 pub fn all<'a>([show, list, judge, fold]: [&'a [String]; 4]) -> Vec<Check<'a>> {
+    let judge_run = |stream: &[u8]| ProgramRun::judge("0", "2041", stream.to_vec());
+    let fold_run = |budget, stream: &[u8]| {
+        let files = vec![("in.sbt".to_string(), stream.to_vec())];
+        ProgramRun::fold(budget, "in.sbt", "out.sbt", files)
+    };
     let tables = [shapes::ladder().counted(1), shapes::chain(2_048).counted(1)];
     let mut checks = vec![stated()];
     for stream in tables.map(|table| image::of_table(&table)) {
-        checks.push(limited(show, ProgramRun::show(stream.clone()), SHOW_AND_LIST));
-        checks.push(limited(list, ProgramRun::list(stream.clone()), SHOW_AND_LIST));
-        checks.push(limited(judge, ProgramRun::judge("0", "2041", stream.clone()), JUDGE));
+        checks.push(enough(show, ProgramRun::show(stream.clone()), READERS));
+        checks.push(enough(list, ProgramRun::list(stream.clone()), READERS));
+        checks.push(enough(judge, judge_run(&stream), READERS));
         for budget in [0, u32::MAX] {
-            let files = vec![("in.sbt".to_string(), stream.clone())];
-            checks.push(limited(fold, ProgramRun::fold(budget, "in.sbt", "out.sbt", files), FOLD));
+            checks.push(enough(fold, fold_run(budget, &stream), FOLD));
         }
+        checks.push(too_little(show, ProgramRun::show(stream.clone())));
+        checks.push(too_little(list, ProgramRun::list(stream.clone())));
+        checks.push(too_little(judge, judge_run(&stream)));
+        checks.push(too_little(fold, fold_run(0, &stream)));
     }
     checks
 }
