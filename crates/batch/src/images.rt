@@ -1,6 +1,7 @@
-// The operations `s`, `w` and `r`: an image shown, written and read.
-ghost use Prim.Native.Nat.{_≤_};
+// The operations `s`, `w`, `k` and `d`: an image shown, written, looked at and loaded.
+ghost use Prim.Native.Nat.{_*_, _≤_};
 ghost use lib.ListN.{length};
+ghost use Rattle.table.specs.Limits.{vertex-limit, edge-limit};
 ghost use Rattle.batch.specs.Buffer.{Place};
 use crate::bodies::Lent;
 use crate::bodies::Room;
@@ -16,6 +17,7 @@ use crate::puts::put_slices;
 use crate::step::Step;
 use crate::step::answered;
 use crate::step::bad_case;
+use image::Sizes;
 use layout::Header;
 
 // The operation `s`: a stream.
@@ -86,10 +88,20 @@ pub fn write_case(
     answered(put_written(out, at, room, lent, words, counts, &mut image))
 }
 
-// Reads an image into so much of the slices as the rooms say, and puts the answer and that much as the call left it.
-fn put_read(
+// Puts a name, and the number, n and m that look or load answered.
+fn put_sizes(out: &mut [u8; output::BUFFER], at: usize, name: &[u8], sizes: Sizes) -> usize
+    requires { ⌜ Place at ⌝ }
+    ensures { λ r. ⌜ Place r ⌝ }
+{
+    let place = put_head(out, at, name, sizes.number, sizes.vertices);
+    output::next_number(out, place, sizes.edges as u64)
+}
+
+// Loads an image into so much of the slices as the rooms say, and puts a name, the answer and that much as the call left it.
+fn put_loaded(
     out: &mut [u8; output::BUFFER],
     at: usize,
+    name: &[u8],
     stream: &[u8],
     room: Room,
     starts: &mut [u32],
@@ -107,19 +119,72 @@ fn put_read(
     let a = room.starts;
     let b = room.targets;
     let c = room.counts;
-    let sizes = image::read(
+    let sizes = image::load(
         stream,
         &mut starts[..a],
         &mut targets[..b],
         &mut counts[..c],
     );
-    let place = put_head(out, at, b"read", sizes.number, sizes.vertices);
-    let end = output::next_number(out, place, sizes.edges as u64);
-    put_slices(out, end, &starts[0..a], &targets[0..b], &counts[0..c])
+    let place = put_sizes(out, at, name, sizes);
+    put_slices(out, place, &starts[0..a], &targets[0..b], &counts[0..c])
 }
 
-// The operation `r`: the rooms of the three slices, whose numbers are all 7, then a stream.
-pub fn read_case(out: &mut [u8; output::BUFFER], at: usize, body: &[u8]) -> Step
+// Lends to it slices whose numbers are all 7.
+fn load_rooms(
+    out: &mut [u8; output::BUFFER],
+    at: usize,
+    name: &[u8],
+    stream: &[u8],
+    room: Room,
+) -> usize
+    requires { ⌜
+        (Place at)
+        × (room .starts ≤ 2 * vertex-limit)
+        × (room .targets ≤ 2 * edge-limit)
+        × (room .counts ≤ 2 * vertex-limit)
+        ⌝ }
+    ensures { λ r. ⌜ Place r ⌝ }
+{
+    let mut starts = [7u32; VERTICES];
+    let mut targets = [7u32; EDGES];
+    let mut counts = [7u64; VERTICES];
+    put_loaded(
+        out,
+        at,
+        name,
+        stream,
+        room,
+        &mut starts,
+        &mut targets,
+        &mut counts,
+    )
+}
+
+// The operation `k`: a stream. Where look accepts it, it is loaded into slices of exactly n + 1, m and n.
+pub fn look_case(out: &mut [u8; output::BUFFER], at: usize, body: &[u8]) -> Step
+    requires { ⌜ Place at ⌝ }
+    ensures { λ r. ⌜ Place (r .place) ⌝ }
+{
+    if body.len() > Header::STREAM {
+        return bad_case(out, at);
+    }
+    let sizes = image::look(body);
+    let place = put_sizes(out, at, b"look", sizes);
+    if sizes.number != 0 {
+        return answered(output::byte(out, place, b'\n'));
+    }
+    let room = Room {
+        fit: true,
+        rest: 0,
+        starts: sizes.vertices + 1,
+        targets: sizes.edges,
+        counts: sizes.vertices,
+    };
+    answered(load_rooms(out, place, b" load", body, room))
+}
+
+// The operation `d`: the rooms of the three slices, whose numbers are all 7, then a stream.
+pub fn load_case(out: &mut [u8; output::BUFFER], at: usize, body: &[u8]) -> Step
     requires { ⌜ Place at ⌝ }
     ensures { λ r. ⌜ Place (r .place) ⌝ }
 {
@@ -128,16 +193,5 @@ pub fn read_case(out: &mut [u8; output::BUFFER], at: usize, body: &[u8]) -> Step
     if !room.fit || body.len() - rest > Header::STREAM {
         return bad_case(out, at);
     }
-    let mut starts = [7u32; VERTICES];
-    let mut targets = [7u32; EDGES];
-    let mut counts = [7u64; VERTICES];
-    answered(put_read(
-        out,
-        at,
-        &body[rest..],
-        room,
-        &mut starts,
-        &mut targets,
-        &mut counts,
-    ))
+    answered(load_rooms(out, at, b"load", &body[rest..], room))
 }

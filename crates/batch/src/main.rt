@@ -20,7 +20,8 @@ ghost use Rattle.batch.specs.Buffer.{Place};
 use bytes::number;
 use checks::check_case;
 use folds::fold_case;
-use images::read_case;
+use images::load_case;
+use images::look_case;
 use images::show_case;
 use images::write_case;
 use lists::judge_case;
@@ -106,7 +107,8 @@ fn answer(
         b's' => show_case(out, at, body),
         b't' => check_case(out, at, body, words, counts),
         b'w' => write_case(out, at, body, words, counts),
-        b'r' => read_case(out, at, body),
+        b'k' => look_case(out, at, body),
+        b'd' => load_case(out, at, body),
         b'l' => list_case(out, at, body, words),
         b'j' => judge_case(out, at, body, words),
         b'f' => fold_case(out, at, body, words, counts),

@@ -1,8 +1,69 @@
-// The library's calls for a C program: list, judge and fold. The number is returned, and each other field is handed out through a lent number.
+// The library's calls for a C program: look, load and write, list, judge and fold. The number is returned, and each other field is handed out through a lent number.
+ghost use Rattle.image.specs.Contracts.{Looked, Loaded};
+ghost use Rattle.writing.specs.Writing.{Written};
 ghost use Rattle.listing.specs.Listing.{ListDone};
 ghost use Rattle.judging.specs.Judging.{JudgeDone};
 ghost use Rattle.rule.specs.Way.{the-fold};
 ghost use Rattle.folding.specs.Folding.{FoldDone};
+
+// Looks at an image, and hands out its n and m.
+#[no_mangle]
+pub extern "C" fn gohardim_look(image: &[u8], vertices: &mut usize, edges: &mut usize) -> u32
+    ensures { λ r. ⌜ Looked (now (image .entry)) (record { number = r; vertices = now (vertices .exit); edges = now (edges .exit) }) ⌝ }
+{
+    let looked = image::look(image);
+    *vertices = looked.vertices;
+    *edges = looked.edges;
+    looked.number
+}
+
+// Loads the table of an image at the fronts of three lent slices, and hands out its n and m.
+#[no_mangle]
+pub extern "C" fn gohardim_load(
+    image: &[u8],
+    starts: &mut [u32],
+    targets: &mut [u32],
+    counts: &mut [u64],
+    vertices: &mut usize,
+    edges: &mut usize,
+) -> u32
+    ensures { λ r.
+        ⌜
+        Loaded
+        (now (image .entry))
+        (record { rows = record { starts = now (starts .entry); targets = now (targets .entry) }; counts = now (counts .entry) })
+        (record { rows = record { starts = now (starts .exit); targets = now (targets .exit) }; counts = now (counts .exit) })
+        (record { number = r; vertices = now (vertices .exit); edges = now (edges .exit) })
+        ⌝ }
+{
+    let loaded = image::load(image, starts, targets, counts);
+    *vertices = loaded.vertices;
+    *edges = loaded.edges;
+    loaded.number
+}
+
+// Writes the image of a table at the front of a lent slice, and hands out its length.
+#[no_mangle]
+pub extern "C" fn gohardim_write(
+    starts: &[u32],
+    targets: &[u32],
+    counts: &[u64],
+    image: &mut [u8],
+    length: &mut usize,
+) -> u32
+    ensures { λ r.
+        ⌜
+        Written
+        (record { rows = record { starts = now (starts .entry); targets = now (targets .entry) }; counts = now (counts .entry) })
+        (now (image .entry))
+        (now (image .exit))
+        (record { number = r; length = now (length .exit) })
+        ⌝ }
+{
+    let written = writing::write(starts, targets, counts, image);
+    *length = written.length;
+    written.number
+}
 
 // Lists the superbubbles of a table at the front of a lent slice, and hands out how many were found.
 #[no_mangle]

@@ -54,8 +54,8 @@ pub fn find(name: &[u8]) -> Found
     if name.len() == 0 {
         return Found::Unseen(libc::ENOENT);
     }
-    let path = look::ended(name);
-    let seen = look::look(&path);
+    let path = attributes::ended(name);
+    let seen = attributes::of(&path);
     if seen.status != 0 {
         let error = last();
         if error == libc::ENOENT {

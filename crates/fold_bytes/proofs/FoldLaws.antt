@@ -9,15 +9,15 @@ use Rattle.table.specs.Verdict.{Demand, Verdict}
 use Rattle.table.specs.Table.{Table, size, SoundTable}
 use Rattle.table.specs.Numbers.{countedDemands}
 use Rattle.table.specs.Lent.{fronts}
-use Rattle.table.proofs.VerdictLaws.{accepted, goes-on, met-is-passed, met-are-passed}
+use Rattle.table.proofs.VerdictLaws.{accepted, goes-on, stops, met-is-passed, met-are-passed}
 use Rattle.table.proofs.Accepted.{counted-meets}
 use Rattle.table.proofs.FrontLaws.{fronts-are}
 use Rattle.layout.specs.Image.{largest-image, tableOf, imageOf}
 use Rattle.layout.proofs.ImageLaws.{image-length}
 use Rattle.layout.proofs.Limits.{length-most}
 use Rattle.image.specs.declared.header.Sizes.{Sizes}
-use Rattle.image.specs.Contracts.{imageDemands, TakenIn}
-use Rattle.image.proofs.TakenLaws.{TakenTable, refusal-stands}
+use Rattle.image.specs.Contracts.{imageDemands, Looked}
+use Rattle.image.proofs.LookLaws.{looked-met}
 use Rattle.writing.specs.declared.Extent.{Extent}
 use Rattle.writing.specs.Writing.{Written}
 use Rattle.writing.proofs.WriteLaws.{table-written}
@@ -158,22 +158,23 @@ fold-delivers {way} {table} {budget} {after} {answer} left none line-front image
 -- ---- From the bytes of an image.
 
 -- the line of the refusal of an image
-pub image-refused : {way : Way} {image : List ℕ} {budget : ℕ} {lent after : Table} {sizes : Sizes} {out out′ new : List ℕ} {answers : Answers}
-    → TakenIn image lent after sizes → (sizes .number ≡ 0 → ⊥)
+pub image-refused : {way : Way} {image : List ℕ} {budget : ℕ} {sizes : Sizes} {out out′ new : List ℕ} {answers : Answers} → Looked image sizes
+    → (sizes .number ≡ 0 → ⊥)
     → (answers .number ≡ sizes .number) × (answers .image ≡ 0) × AtFront (text (refusalLines (sizes .number))) out out′ (answers .line)
     → FoldAnswer way image budget out out′ new new answers
-image-refused {way} {image} taken refusal = refusal-delivers refusal (refusal-stands taken refusal (way .asked (tableOf image .rows)))
+image-refused {way} {image} {sizes = sizes} looked refusal =
+    refusal-delivers refusal (stops (imageDemands image) (way .asked (tableOf image .rows)) (sizes .number) refusal (looked .verdict))
 
--- what is delivered of the table of an image that was taken in
-pub image-folded : {way : Way} {image : List ℕ} {after : Table} {n m budget : ℕ} {out out′ new new′ : List ℕ} {answers : Answers} → TakenTable image after n m
-    → FoldDelivered way (way .asked (fronts n m after .rows)) (fronts n m after) budget out out′ new new′ answers
+-- what is delivered of the table of an image that look accepts
+pub image-folded : {way : Way} {image : List ℕ} {sizes : Sizes} {table : Table} {budget : ℕ} {out out′ new new′ : List ℕ} {answers : Answers} → Looked image sizes
+    → sizes .number ≡ 0 → table ≡ tableOf image → FoldDelivered way (way .asked (table .rows)) table budget out out′ new new′ answers
     → FoldAnswer way image budget out out′ new new′ answers
-image-folded {way} {image} {budget = budget} {out} {out′} {new} {new′} {answers} taken done =
-    let moved = subst (λ (t : Table). FoldDelivered way (way .asked (t .rows)) t budget out out′ new new′ answers) (taken .fronts-are) done in
+image-folded {way} {image} {budget = budget} {out} {out′} {new} {new′} {answers} looked e same done =
+    let moved = subst (λ (t : Table). FoldDelivered way (way .asked (t .rows)) t budget out out′ new new′ answers) same done in
     record {
       printed = moved .printed;
       written = moved .written;
-      verdict = goes-on (imageDemands image) (way .asked (tableOf image .rows)) (answers .number) (taken .met) (moved .verdict);
+      verdict = goes-on (imageDemands image) (way .asked (tableOf image .rows)) (answers .number) (looked-met looked e) (moved .verdict);
       taken = moved .taken;
       refused = moved .refused;
       line-front = moved .line-front;

@@ -95,7 +95,7 @@ fn fold_table(
     }
 }
 
-// Puts the line and the new image of an image that is folded, or the line of its refusal, with arrays to take it in and a second set for the new table.
+// Puts the line and the new image of an image that is folded, or the line of its refusal, with arrays to load it into and a second set for the new table.
 fn answer_with(
     image: &[u8],
     budget: u32,
@@ -114,7 +114,7 @@ fn answer_with(
         ⌝ }
     ensures { λ r. ⌜ Counts (r .line) (now (out .exit)) × Counts (r .image) (now (new .exit)) ⌝ }
 {
-    let sizes = image::take_in(image, starts, targets, counts);
+    let sizes = taking::take_in(image, starts, targets, counts);
     if sizes.number != 0 {
         return refused(out, sizes.number);
     }

@@ -1,4 +1,4 @@
--- Two results that the contract of reading, or of taking in, allows coincide: number, n, m and all memory lent. Assumes nothing.
+-- Two results that the contract of look, or of load, allows coincide: number, n, m and all memory lent. Assumes nothing.
 use mathlib.Core.Path.{_≡_, sym, _∙_}
 use mathlib.Core.List.{List, [], _∷_, _++_}
 use native.Mathlib.Decide.{ℕ-discrete}
@@ -9,20 +9,20 @@ use Rattle.table.specs.Lent.{AtFronts}
 use Rattle.table.proofs.VerdictLaws.{verdict-unique}
 use Rattle.layout.specs.Image.{verticesOf, edgesOf}
 use Rattle.image.specs.declared.header.Sizes.{Sizes}
-use Rattle.image.specs.Contracts.{headerDemands, imageDemands, ImageJudged, TakenIn, Read}
+use Rattle.image.specs.Contracts.{imageDemands, Looked, Loaded}
 
 -- slices that held the same, with one table at their fronts
-fronts-same : {n m : ℕ} {table lent after₁ after₂ : Table} → AtFronts n m table lent after₁ → AtFronts n m table lent after₂ → after₁ ≡ after₂
+pub fronts-same : {n m : ℕ} {table lent after₁ after₂ : Table} → AtFronts n m table lent after₁ → AtFronts n m table lent after₂ → after₁ ≡ after₂
 fronts-same a b =
     let starts = a .starts-front ∙ sym (b .starts-front) in
     let targets = a .targets-front ∙ sym (b .targets-front) in
     let counts = a .counts-front ∙ sym (b .counts-front) in
     λ i. record { rows = record { starts = starts i; targets = targets i }; counts = counts i }
 
--- two readings of one image into slices that held the same
-pub read-determined : {image : List ℕ} {lent after₁ after₂ : Table} {answer₁ answer₂ : Sizes} → Read image lent after₁ answer₁ → Read image lent after₂ answer₂
+-- one image loaded twice into slices that held the same
+pub load-determined : {image : List ℕ} {lent after₁ after₂ : Table} {answer₁ answer₂ : Sizes} → Loaded image lent after₁ answer₁ → Loaded image lent after₂ answer₂
     → (answer₁ ≡ answer₂) × (after₁ ≡ after₂)
-read-determined {image} {lent} {answer₁ = answer₁} {answer₂ = answer₂} a b =
+load-determined {image} {lent} {answer₁ = answer₁} {answer₂ = answer₂} a b =
     let room = roomFor (verticesOf image) (edgesOf image) lent in
     let same : answer₁ .number ≡ answer₂ .number
     = verdict-unique (imageDemands image ++ room ∷ []) (answer₁ .number) (answer₂ .number) (a .verdict) (b .verdict) in
@@ -41,9 +41,9 @@ read-determined {image} {lent} {answer₁ = answer₁} {answer₂ = answer₂} a
           (λ i. record { number = same i; vertices = n-same i; edges = m-same i }, x .2 ∙ sym (y .2))
     ]
 
--- two judgements of one image
-judged-determined : {image : List ℕ} {answer₁ answer₂ : Sizes} → ImageJudged image answer₁ → ImageJudged image answer₂ → answer₁ ≡ answer₂
-judged-determined {image} {answer₁} {answer₂} a b =
+-- two looks at one image
+pub look-determined : {image : List ℕ} {answer₁ answer₂ : Sizes} → Looked image answer₁ → Looked image answer₂ → answer₁ ≡ answer₂
+look-determined {image} {answer₁} {answer₂} a b =
     let same : answer₁ .number ≡ answer₂ .number = verdict-unique (imageDemands image) (answer₁ .number) (answer₂ .number) (a .verdict) (b .verdict) in
     let sizes : (answer₁ .vertices ≡ answer₂ .vertices) × (answer₁ .edges ≡ answer₂ .edges)
     = elim (ℕ-discrete (answer₁ .number) 0) [
@@ -51,15 +51,3 @@ judged-determined {image} {answer₁} {answer₂} a b =
       | no refusal ↦ let x = a .refused refusal in let y = b .refused (λ e. refusal (same ∙ e)) in (x .0 ∙ sym (y .0), x .1 ∙ sym (y .1))
     ] in
     λ i. record { number = same i; vertices = sizes .0 i; edges = sizes .1 i }
-
--- one image taken into arrays that held the same
-pub taken-in-determined : {image : List ℕ} {lent after₁ after₂ : Table} {answer₁ answer₂ : Sizes} → TakenIn image lent after₁ answer₁
-    → TakenIn image lent after₂ answer₂ → (answer₁ ≡ answer₂) × (after₁ ≡ after₂)
-taken-in-determined {image} a b =
-    let same = verdict-unique (headerDemands image) (a .header) (b .header) (a .header-verdict) (b .header-verdict) in (
-      judged-determined (a .judged) (b .judged),
-      elim (ℕ-discrete (a .header) 0) [
-        | yes e ↦ fronts-same (a .laid e) (b .laid (sym same ∙ e))
-        | no refusal ↦ a .unlaid refusal ∙ sym (b .unlaid (λ e. refusal (same ∙ e)))
-      ],
-    )

@@ -1,15 +1,15 @@
--- What reading an image states: the number, every field, and all memory lent, on a refusal too. Assumes nothing.
-use Prim.Native.Nat.{ℕ, _+_, _*_, _≤_}
+-- What looking at an image and loading it state: the number, every field, and all memory lent, on a refusal too. Assumes nothing.
+use Prim.Native.Nat.{ℕ, _+_, _≤_}
 use mathlib.Core.Path.{_≡_}
 use mathlib.Core.List.{List, [], _∷_, _++_}
-use lib.ListN.{length, take, drop}
+use lib.ListN.{length, take}
 use Rattle.table.specs.Limits.{vertex-limit, edge-limit}
 use Rattle.table.specs.Verdict.{Demand, Verdict}
 use Rattle.table.specs.Table.{Table}
-use Rattle.table.specs.Numbers.{startsFit, targetsBelow, rowsRise, sumFits, roomFor}
+use Rattle.table.specs.Numbers.{roomFor}
 use Rattle.table.specs.Lent.{AtFronts}
-use Rattle.layout.specs.Bytes.{numbersOf}
 use Rattle.layout.specs.Image.{mark, imageLength, versionOf, verticesOf, edgesOf, tableOf}
+use Rattle.in_place.specs.InPlace.{Sized, tableIn, placedDemands}
 use Rattle.image.specs.declared.header.Sizes.{Sizes}
 
 -- 10: shorter than 13 bytes, or wrong mark
@@ -38,8 +38,7 @@ headerDemands image = marked image ∷ versionOne image ∷ fewVertices image �
 
 -- 3, 4, 5, 7: what is asked of the table that stands in the image
 abbrev pub bodyDemands : List ℕ → List Demand
-bodyDemands image =
-    startsFit (tableOf image .rows) ∷ targetsBelow (tableOf image .rows) ∷ rowsRise (tableOf image .rows) ∷ sumFits (tableOf image) ∷ []
+bodyDemands image = placedDemands (tableOf image)
 
 -- 10, 11, 1, 2, 12, 3, 4, 5, 7: what is asked of an image
 abbrev pub imageDemands : List ℕ → List Demand
@@ -47,23 +46,24 @@ imageDemands image = headerDemands image ++ bodyDemands image
 
 -- an image of n and m, and slices with room for its table
 pub record LayRoom (image : List ℕ) (n m : ℕ) (lent : Table) : Type 0 where
-  pub few-vertices : n ≤ vertex-limit
-  pub few-edges : m ≤ edge-limit
-  pub long : length image ≡ imageLength n m
+  pub sized : Sized image n m
   pub room : roomFor n m lent .met
 
--- the three slices, before and after, with the numbers that stand in an image of n and m at their fronts
+-- slices of exactly n + 1, m and n
+pub record ExactRoom (n m : ℕ) (lent : Table) : Type 0 where
+  pub starts-exact : length (lent .rows .starts) ≡ n + 1
+  pub targets-exact : length (lent .rows .targets) ≡ m
+  pub counts-exact : length (lent .counts) ≡ n
+
+-- the three slices, before and after, with the table of an image of n and m at their fronts
 abbrev pub Laid : List ℕ → ℕ → ℕ → Table → Table → Type 0
-Laid image n m =
-    AtFronts n m
-    (record {
-      rows =
-          record {
-            starts = numbersOf 4 (n + 1) (drop 13 image);
-            targets = numbersOf 4 m (drop (13 + 4 * (n + 1)) image);
-          };
-      counts = numbersOf 8 n (drop (13 + 4 * (n + 1) + 4 * m) image);
-    })
+Laid image n m = AtFronts n m (tableIn image n m)
+
+-- where an image was accepted: 8 where the slices have no room for its table, and then they are as they were; else 0, and the table at their fronts
+pub record LaidInRoom (image : List ℕ) (n m : ℕ) (lent after : Table) (number : ℕ) : Type 0 where
+  pub verdict : Verdict (roomFor n m lent ∷ []) number
+  pub taken : number ≡ 0 → Laid image n m lent after
+  pub refused : (number ≡ 0 → ⊥) → after ≡ lent
 
 -- what judging a header states: number, n and m
 pub record HeaderJudged (image : List ℕ) (answer : Sizes) : Type 0 where
@@ -71,23 +71,14 @@ pub record HeaderJudged (image : List ℕ) (answer : Sizes) : Type 0 where
   pub taken : answer .number ≡ 0 → (answer .vertices ≡ verticesOf image) × (answer .edges ≡ edgesOf image)
   pub refused : (answer .number ≡ 0 → ⊥) → (answer .vertices ≡ 0) × (answer .edges ≡ 0)
 
--- what judging an image states: number, n and m
-pub record ImageJudged (image : List ℕ) (answer : Sizes) : Type 0 where
+-- what looking at an image states: number, n and m
+pub record Looked (image : List ℕ) (answer : Sizes) : Type 0 where
   pub verdict : Verdict (imageDemands image) (answer .number)
   pub taken : answer .number ≡ 0 → (answer .vertices ≡ verticesOf image) × (answer .edges ≡ edgesOf image)
   pub refused : (answer .number ≡ 0 → ⊥) → (answer .vertices ≡ 0) × (answer .edges ≡ 0)
 
--- what taking an image in states, where there is room for any table: number, n and m, and the three slices before and after. The table is laid out at their fronts where
--- the header is accepted, whatever is then found of it; `header` is the number of the header alone
-pub record TakenIn (image : List ℕ) (lent after : Table) (answer : Sizes) : Type 0 where
-  pub judged : ImageJudged image answer
-  pub header : ℕ
-  pub header-verdict : Verdict (headerDemands image) header
-  pub laid : header ≡ 0 → AtFronts (verticesOf image) (edgesOf image) (tableOf image) lent after
-  pub unlaid : (header ≡ 0 → ⊥) → after ≡ lent
-
--- what reading an image states: number, n and m, and the three slices before and after
-pub record Read (image : List ℕ) (lent after : Table) (answer : Sizes) : Type 0 where
+-- what loading an image states: number, n and m, and the three slices before and after
+pub record Loaded (image : List ℕ) (lent after : Table) (answer : Sizes) : Type 0 where
   pub verdict : Verdict (imageDemands image ++ roomFor (verticesOf image) (edgesOf image) lent ∷ []) (answer .number)
   pub taken :
       answer .number ≡ 0

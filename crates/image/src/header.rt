@@ -11,7 +11,7 @@ use layout::word;
 use table::EDGE_LIMIT;
 use table::VERTEX_LIMIT;
 
-// What judging or reading an image answers: the number, n and m.
+// What look and load answer: the number, n and m.
 pub struct Sizes {
     pub number: u32,
     pub vertices: usize,

@@ -1,7 +1,9 @@
-// Reading a house image into lent slices.
+// A house image judged, and its table loaded into lent slices.
 mod header;
-mod reader;
+mod laying;
+mod loading;
+mod looking;
 
 pub use header::Sizes;
-pub use reader::read;
-pub use reader::take_in;
+pub use loading::load;
+pub use looking::look;

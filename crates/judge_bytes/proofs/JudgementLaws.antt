@@ -5,14 +5,13 @@ use mathlib.Core.Bool.{Bool, true, false}
 use mathlib.Core.List.{List, [], _∷_}
 use Rattle.table.specs.Verdict.{Verdict}
 use Rattle.table.specs.Table.{Rows, Table, Sound}
-use Rattle.table.specs.Lent.{fronts}
 use Rattle.table.specs.Numbers.{tableDemands}
 use Rattle.table.proofs.Accepted.{table-met, well-formed-accepted}
-use Rattle.table.proofs.VerdictLaws.{met-are-passed}
+use Rattle.table.proofs.VerdictLaws.{stops, met-are-passed}
 use Rattle.layout.specs.Image.{tableOf}
 use Rattle.image.specs.declared.header.Sizes.{Sizes}
-use Rattle.image.specs.Contracts.{imageDemands, TakenIn}
-use Rattle.image.proofs.TakenLaws.{TakenTable, refusal-stands}
+use Rattle.image.specs.Contracts.{imageDemands, Looked}
+use Rattle.image.proofs.LookLaws.{looked-met}
 use Rattle.judging.specs.declared.Judgement.{Judgement}
 use Rattle.judging.specs.Judging.{pairInside, JudgeDone}
 use Rattle.texts.specs.Text.{bytes, decimal, text, named, judgementLines, refusalLines}
@@ -64,16 +63,15 @@ module _ {rows : Rows} {s t : ℕ} {judgement : Judgement} {out out′ : List �
 -- ---- From the bytes of an image.
 
 -- the line of the refusal of an image
-pub image-refused : {image : List ℕ} {s t : ℕ} {lent after : Table} {sizes : Sizes} {out out′ : List ℕ} {answer : Answer} → TakenIn image lent after sizes
-    → (sizes .number ≡ 0 → ⊥) → (answer .number ≡ sizes .number) × AtFront (text (refusalLines (sizes .number))) out out′ (answer .length)
-    → JudgeAnswer image s t out out′ answer
-image-refused {image} {s} {t} taken refusal =
-    refusal-answers refusal (refusal-stands taken refusal (pairInside (tableOf image .rows) s t ∷ []))
+pub image-refused : {image : List ℕ} {s t : ℕ} {sizes : Sizes} {out out′ : List ℕ} {answer : Answer} → Looked image sizes → (sizes .number ≡ 0 → ⊥)
+    → (answer .number ≡ sizes .number) × AtFront (text (refusalLines (sizes .number))) out out′ (answer .length) → JudgeAnswer image s t out out′ answer
+image-refused {image} {s} {t} {sizes} looked refusal =
+    refusal-answers refusal (stops (imageDemands image) (pairInside (tableOf image .rows) s t ∷ []) (sizes .number) refusal (looked .verdict))
 
--- what is answered of the table of an image that was taken in
-pub image-judged : {image : List ℕ} {after : Table} {n m s t : ℕ} {out out′ : List ℕ} {answer : Answer} → TakenTable image after n m
-    → Answered (pairInside (fronts n m after .rows) s t ∷ []) (JudgementText (fronts n m after .rows) s t) out out′ answer
+-- what is answered of the table of an image that look accepts
+pub image-judged : {image : List ℕ} {s t : ℕ} {sizes : Sizes} {table : Table} {out out′ : List ℕ} {answer : Answer} → Looked image sizes → sizes .number ≡ 0
+    → table ≡ tableOf image → Answered (pairInside (table .rows) s t ∷ []) (JudgementText (table .rows) s t) out out′ answer
     → JudgeAnswer image s t out out′ answer
-image-judged {image} {s = s} {t} {out} {out′} {answer} taken done =
-    answers-behind (imageDemands image) (taken .met)
-    (subst (λ (table : Table). Answered (pairInside (table .rows) s t ∷ []) (JudgementText (table .rows) s t) out out′ answer) (taken .fronts-are) done)
+image-judged {image} {s} {t} {out = out} {out′} {answer} looked e same done =
+    answers-behind (imageDemands image) (looked-met looked e)
+    (subst (λ (table : Table). Answered (pairInside (table .rows) s t ∷ []) (JudgementText (table .rows) s t) out out′ answer) same done)

@@ -51,7 +51,7 @@ fn judge_table(starts: &[u32], targets: &[u32], s: u32, t: u32, out: &mut [u8; L
     }
 }
 
-// Puts the judgement of a pair in the table of an image, or the line of its refusal, with arrays to take it in.
+// Puts the judgement of a pair in the table of an image, or the line of its refusal, with arrays to load it into.
 fn answer_with(
     image: &[u8],
     s: u32,
@@ -64,7 +64,7 @@ fn answer_with(
     ensures { λ r. ⌜ JudgeAnswer (now (image .entry)) s t (now (out .entry)) (now (out .exit)) r ⌝ }
     ensures { λ r. ⌜ Counts (r .length) (now (out .exit)) ⌝ }
 {
-    let sizes = image::take_in(image, starts, targets, counts);
+    let sizes = taking::take_in(image, starts, targets, counts);
     if sizes.number != 0 {
         return printing::refusal(out, sizes.number);
     }

@@ -2,6 +2,7 @@
 mod bytes;
 mod header;
 
+pub use bytes::long;
 pub use bytes::read_longs;
 pub use bytes::read_words;
 pub use bytes::wide;

@@ -6,10 +6,12 @@ use native.Mathlib.Omega.{arith}
 use lib.ListN.{length, take}
 use Rattle.table.specs.Limits.{vertex-limit}
 use Rattle.table.specs.Table.{Rows, Table, edges, Sound, Below}
-use Rattle.table.specs.Lent.{fronts}
 use Rattle.table.proofs.VerdictLaws.{accepts}
 use Rattle.table.proofs.RowLaws.{edges-below}
-use Rattle.image.specs.Contracts.{imageDemands}
+use Rattle.layout.specs.Image.{tableOf}
+use Rattle.image.specs.declared.header.Sizes.{Sizes}
+use Rattle.image.specs.Contracts.{imageDemands, Looked}
+use Rattle.image.proofs.LookLaws.{looked-met}
 use Rattle.bubble.specs.Superbubble.{Superbubble}
 use Rattle.listing.specs.declared.Found.{Found}
 use Rattle.listing.specs.Listing.{Listed, ListDone}
@@ -17,7 +19,6 @@ use Rattle.listing.proofs.SoundList.{sound-accepted, front-listed, listed-most,
 use Rattle.printing.specs.declared.Answer.{Answer}
 use Rattle.printing.specs.Put.{Printed}
 use Rattle.printing.proofs.AnsweredLaws.{text-answers}
-use Rattle.image.proofs.TakenLaws.{TakenTable}
 use Rattle.list_bytes.specs.Lines.{ListText, ListAnswer}
 
 -- the list of a table, and what is asked of a list before it is put
@@ -38,9 +39,9 @@ list-ready ok room done =
       below = λ k k-in. omega (arith, listed-below (edges-below ok) listed k k-in);
     }
 
--- the text of the list of the table that was taken in is the answer
-pub image-listed : {image : List ℕ} {after : Table} {n m : ℕ} {out out′ : List ℕ} {answer : Answer} → TakenTable image after n m → answer .number ≡ 0
-    → Printed (ListText (fronts n m after .rows)) out out′ (answer .length) → ListAnswer image out out′ answer
-image-listed {image} taken none put =
-    text-answers none (accepts (imageDemands image) (taken .met))
-    (subst (λ (table : Table). ListText (table .rows) (put .printed)) (taken .fronts-are) (put .right)) (put .at-front)
+-- of an image that look accepts the text of its table's list is the answer
+pub image-listed : {image : List ℕ} {looked : Sizes} {table : Table} {out out′ : List ℕ} {answer : Answer} → Looked image looked → looked .number ≡ 0
+    → table ≡ tableOf image → answer .number ≡ 0 → Printed (ListText (table .rows)) out out′ (answer .length) → ListAnswer image out out′ answer
+image-listed {image} sees e same none put =
+    text-answers none (accepts (imageDemands image) (looked-met sees e))
+    (subst (λ (table : Table). ListText (table .rows) (put .printed)) same (put .right)) (put .at-front)

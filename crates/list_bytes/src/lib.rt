@@ -68,7 +68,7 @@ fn list_table(
     put_list(out, &pairs[..2 * found], found)
 }
 
-// Puts the list of the table in an image, or the line of its refusal, with arrays to take it in.
+// Puts the list of the table in an image, or the line of its refusal, with arrays to load it into.
 fn answer_with(
     image: &[u8],
     starts: &mut [u32; START_LIMIT],
@@ -80,7 +80,7 @@ fn answer_with(
     ensures { λ r. ⌜ ListAnswer (now (image .entry)) (now (out .entry)) (now (out .exit)) r ⌝ }
     ensures { λ r. ⌜ Counts (r .length) (now (out .exit)) ⌝ }
 {
-    let sizes = image::take_in(image, starts, targets, counts);
+    let sizes = taking::take_in(image, starts, targets, counts);
     if sizes.number != 0 {
         return printing::refusal(out, sizes.number);
     }

@@ -3,7 +3,7 @@ ghost use Prim.Native.Nat.{_+_, _≤_};
 ghost use mathlib.Core.Path.{_≡_};
 ghost use mathlib.Core.List.{[], _∷_};
 ghost use lib.ListN.{length};
-ghost use Rattle.texts.specs.Text.{decimal, text, refusalLines};
+ghost use Rattle.texts.specs.Text.{decimal, line, text, sizesLine, refusalLines};
 ghost use Rattle.printing.specs.Put.{AtFront, Put};
 
 // What a program answers: the number of a refusal, or 0, and how many bytes of text stand at the front of the buffer.
@@ -51,6 +51,17 @@ pub fn end_line(out: &mut [u8], at: usize) -> usize
 {
     out[at] = b'\n';
     at + 1
+}
+
+// Puts the line of n and m, `table N M`, at the front.
+pub fn sizes(out: &mut [u8], n: usize, m: usize) -> usize
+    requires { ⌜ length (line (sizesLine n m)) ≤ length (now out) ⌝ }
+    ensures { λ r. ⌜ Put (now (out .entry)) 0 (line (sizesLine n m)) (now (out .exit)) r ⌝ }
+{
+    let mut place = word(out, 0, b"table");
+    place = next_number(out, place, n as u64);
+    place = next_number(out, place, m as u64);
+    end_line(out, place)
 }
 
 // Puts the line of a refusal, `refused N`, at the front.

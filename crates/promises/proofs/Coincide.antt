@@ -12,9 +12,10 @@ use Rattle.table.specs.Verdict.{Verdict, Says}
 use Rattle.table.specs.Table.{In, Rises, countSum, Rows, Table, edges}
 use Rattle.table.specs.Numbers.{tableDemands, countedDemands}
 use Rattle.table.proofs.VerdictLaws.{says-unique, verdict-unique}
+use Rattle.in_place.specs.InPlace.{tableIn, placedDemands}
 use Rattle.image.specs.declared.header.Sizes.{Sizes}
-use Rattle.image.specs.Contracts.{TakenIn, Read}
-use Rattle.image.proofs.Determined.{read-determined, taken-in-determined}
+use Rattle.image.specs.Contracts.{Looked, Loaded}
+use Rattle.image.proofs.Determined.{look-determined, load-determined}
 use Rattle.writing.specs.declared.Extent.{Extent}
 use Rattle.writing.specs.Writing.{Written}
 use Rattle.writing.proofs.Determined.{write-determined}
@@ -53,6 +54,9 @@ use Rattle.texts.specs.Text.{text, refusalLines, listLines, judgementLines}
 use Rattle.printing.specs.declared.Answer.{Answer}
 use Rattle.printing.specs.Put.{AtFront, Put}
 use Rattle.printing.proofs.Determined.{bytes-put-determined, front-determined, answered-determined}
+use Rattle.taking.specs.Taking.{TakenIn}
+use Rattle.taking.proofs.Determined.{taken-in-determined}
+use Rattle.look_bytes.specs.Look.{LookAnswer}
 use Rattle.show_bytes.specs.Show.{ShowAnswer}
 use Rattle.list_bytes.specs.Lines.{ListAnswer}
 use Rattle.judge_bytes.specs.Line.{JudgeAnswer}
@@ -85,10 +89,18 @@ rises-coincides list = says-unique (Rises list)
 pub holds-coincides : (list : List ℕ) (v : ℕ) (r₁ r₂ : Bool) → Says r₁ (In v list) → Says r₂ (In v list) → r₁ ≡ r₂
 holds-coincides list v = says-unique (In v list)
 
--- `image::read`
-pub read-coincides : {image : List ℕ} {lent after₁ after₂ : Table} {answer₁ answer₂ : Sizes} → Read image lent after₁ answer₁ → Read image lent after₂ answer₂
+-- `in_place::check`
+pub check-in-place-coincides : (image : List ℕ) (n m r₁ r₂ : ℕ) → Verdict (placedDemands (tableIn image n m)) r₁ → Verdict (placedDemands (tableIn image n m)) r₂ → r₁ ≡ r₂
+check-in-place-coincides image n m = verdict-unique (placedDemands (tableIn image n m))
+
+-- `image::look`
+pub look-coincides : {image : List ℕ} {answer₁ answer₂ : Sizes} → Looked image answer₁ → Looked image answer₂ → answer₁ ≡ answer₂
+look-coincides = look-determined
+
+-- `image::load`
+pub load-coincides : {image : List ℕ} {lent after₁ after₂ : Table} {answer₁ answer₂ : Sizes} → Loaded image lent after₁ answer₁ → Loaded image lent after₂ answer₂
     → (answer₁ ≡ answer₂) × (after₁ ≡ after₂)
-read-coincides = read-determined
+load-coincides = load-determined
 
 -- `writing::write`
 pub write-coincides : {table : Table} {image image₁ image₂ : List ℕ} {answer₁ answer₂ : Extent} → Written table image image₁ answer₁ → Written table image image₂ answer₂
@@ -187,10 +199,15 @@ refusal-coincides (number₁, at₁) (number₂, at₂) =
     let (ends, outs) = front-determined refl at₁ at₂ in
     (λ i. record { number = numbers i; length = ends i }, outs)
 
--- `image::take_in`
+-- `taking::take_in`
 pub take-in-coincides : {image : List ℕ} {lent after₁ after₂ : Table} {answer₁ answer₂ : Sizes} → TakenIn image lent after₁ answer₁ → TakenIn image lent after₂ answer₂
     → (answer₁ ≡ answer₂) × (after₁ ≡ after₂)
 take-in-coincides = taken-in-determined
+
+-- `look_bytes::answer`
+pub look-answers-coincide : (image : List ℕ) {out out₁ out₂ : List ℕ} {answer₁ answer₂ : Answer} → LookAnswer image out out₁ answer₁ → LookAnswer image out out₂ answer₂
+    → (answer₁ ≡ answer₂) × (out₁ ≡ out₂)
+look-answers-coincide image = answered-determined (λ printed₁ printed₂ a b. a ∙ sym b)
 
 -- `show_bytes::answer`
 pub show-answers-coincide : (image : List ℕ) {out out₁ out₂ : List ℕ} {answer₁ answer₂ : Answer} → ShowAnswer image out out₁ answer₁ → ShowAnswer image out out₂ answer₂

@@ -13,8 +13,9 @@ use Rattle.table.proofs.VerdictLaws.{goes-on, stops, verdict-unique}
 use Rattle.table.proofs.Accepted.{well-formed, counted, met-counted, counted-meets}
 use Rattle.layout.specs.Image.{imageLength, verticesOf, edgesOf}
 use Rattle.image.specs.declared.header.Sizes.{Sizes}
-use Rattle.image.specs.Contracts.{imageDemands, Read}
-use Rattle.image.proofs.ReadLaws.{read-met}
+use Rattle.image.specs.Contracts.{imageDemands, Looked, Loaded}
+use Rattle.image.proofs.LookLaws.{looked-met}
+use Rattle.image.proofs.LoadLaws.{loaded-met}
 use Rattle.writing.specs.declared.Extent.{Extent}
 use Rattle.writing.specs.Writing.{imageRoom, Written}
 use Rattle.bubble.specs.Cycle.{Cyclic}
@@ -68,10 +69,14 @@ write-answers table image =
     (decided-then (countedDemands table) (imageRoom (table .rows) image ∷ []) (counted-decided table)
     (λ _. (decLe (imageLength (size (table .rows)) (length (table .rows .targets))) (length image), λ _. tt)))
 
--- An image of any content gets an answer.
-pub read-answers : (image : List ℕ) (lent : Table)
+-- An image of any content gets an answer: from look,
+pub look-answers : (image : List ℕ) → (number : ℕ) × Verdict (imageDemands image) number
+look-answers image = gives-number (imageDemands image) (image-decided image)
+
+-- and from load.
+pub load-answers : (image : List ℕ) (lent : Table)
     → (number : ℕ) × Verdict (imageDemands image ++ roomFor (verticesOf image) (edgesOf image) lent ∷ []) number
-read-answers image lent =
+load-answers image lent =
     let room = roomFor (verticesOf image) (edgesOf image) lent in
     gives-number (imageDemands image ++ room ∷ [])
     (decided-then (imageDemands image) (room ∷ []) (image-decided image) (λ _. (room-decided (verticesOf image) (edgesOf image) lent, λ _. tt)))
@@ -120,9 +125,14 @@ write-refuses-bad {table} {image} {image′} {answer} bad done =
     still-refused (countedDemands table) (imageRoom (table .rows) image ∷ []) (answer .number) (λ r. bad-counts-refused table r bad) (check-counted-answers table)
     (done .verdict)
 
--- and bytes that are the image of no well-formed table
-pub bad-image-refused : {image : List ℕ} {lent after : Table} {answer : Sizes} → Below 256 image → (GoodImage image → ⊥) → Read image lent after answer → answer .number ≡ 0 → ⊥
-bad-image-refused bytes bad read e = bad (met-good bytes (read-met read e))
+-- and bytes that are the image of no well-formed table, by look
+pub look-refuses-bad : {image : List ℕ} {answer : Sizes} → Below 256 image → (GoodImage image → ⊥) → Looked image answer → answer .number ≡ 0 → ⊥
+look-refuses-bad bytes bad looks e = bad (met-good bytes (looked-met looks e))
+
+-- and by load.
+pub load-refuses-bad : {image : List ℕ} {lent after : Table} {answer : Sizes} → Below 256 image → (GoodImage image → ⊥) → Loaded image lent after answer
+    → answer .number ≡ 0 → ⊥
+load-refuses-bad bytes bad loads e = bad (met-good bytes (loaded-met loads e))
 
 -- A refusal changes no buffer she has lent, and returns 0 in every other field: list,
 pub list-refusal : {rows : Rows} {out out′ : List ℕ} {answer : Found} → ListDone rows out out′ answer → (answer .number ≡ 0 → ⊥) → (out′ ≡ out) × (answer .found ≡ 0)
@@ -137,12 +147,16 @@ pub fold-refusal : {table lent after : Table} {budget : ℕ} {answer : Folded} �
     → (after ≡ lent) × ((answer .folded ≡ 0) × (answer .left ≡ 0) × (answer .edges ≡ 0))
 fold-refusal done refusal = let (folded, left, edges, same) = done .refused refusal in (same, (folded, left, edges))
 
--- reading,
-pub read-refusal : {image : List ℕ} {lent after : Table} {answer : Sizes} → Read image lent after answer → (answer .number ≡ 0 → ⊥)
-    → (after ≡ lent) × ((answer .vertices ≡ 0) × (answer .edges ≡ 0))
-read-refusal done refusal = let (n, m, same) = done .refused refusal in (same, (n, m))
+-- look, which is lent nothing that it could change,
+pub look-refusal : {image : List ℕ} {answer : Sizes} → Looked image answer → (answer .number ≡ 0 → ⊥) → (answer .vertices ≡ 0) × (answer .edges ≡ 0)
+look-refusal done = done .refused
 
--- and writing.
+-- load,
+pub load-refusal : {image : List ℕ} {lent after : Table} {answer : Sizes} → Loaded image lent after answer → (answer .number ≡ 0 → ⊥)
+    → (after ≡ lent) × ((answer .vertices ≡ 0) × (answer .edges ≡ 0))
+load-refusal done refusal = let (n, m, same) = done .refused refusal in (same, (n, m))
+
+-- and write.
 pub write-refusal : {table : Table} {image image′ : List ℕ} {answer : Extent} → Written table image image′ answer → (answer .number ≡ 0 → ⊥)
     → (image′ ≡ image) × (answer .length ≡ 0)
 write-refusal done refusal = let (size, same) = done .refused refusal in (same, size)

@@ -8,7 +8,7 @@ use Rattle.table.specs.Table.{Below, SoundTable}
 use Rattle.table.proofs.VerdictLaws.{accepted, accepts, goes-on, met-are-passed, verdict-unique}
 use Rattle.layout.specs.Image.{imageOf, verticesOf, edgesOf, tableOf}
 use Rattle.image.specs.Contracts.{imageDemands}
-use Rattle.image.proofs.ReadLaws.{judged-met, table-sound}
+use Rattle.image.proofs.LookLaws.{looked-met, table-sound}
 use Rattle.promises.specs.Images.{GoodImage}
 use Rattle.promises.proofs.TableBack.{table-back, image-met}
 use Rattle.promises.proofs.ImageBack.{image-back}
@@ -23,7 +23,7 @@ module _ (image : List ℕ) (rest : List Demand) (passed : Verdict (imageDemands
   -- bytes that are given 0 meet these demands,
   pub image-passed : AllMet (imageDemands image)
   image-passed =
-      judged-met {image = image} {answer = record { number = 0; vertices = verticesOf image; edges = edgesOf image }}
+      looked-met {image = image} {answer = record { number = 0; vertices = verticesOf image; edges = edgesOf image }}
       (record { verdict = first-passed (imageDemands image) rest passed; taken = λ _. (refl, refl); refused = λ refusal. absurd (refusal refl) }) refl
 
   -- and those that stand behind them;

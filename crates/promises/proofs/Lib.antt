@@ -7,7 +7,9 @@ pub mod Printed
 pub mod Runs
 pub mod Coincide
 pub mod WrongPrograms
--- reading and writing are each other's inverse
+-- look and load of one image, in a row
+pub mod LookAndLoad
+-- loading and writing are each other's inverse
 pub mod RoundTrip
 pub mod TableBack
 pub mod ImageBack

@@ -1,17 +1,20 @@
--- What the programs print and write is what the library's contracts settle. Of all that the contracts of `show_bytes`, `list_bytes`, `judge_bytes` and `fold_bytes` allow,
--- from the bytes read to the bytes printed and written: these are the front of a buffer, as many as the answer says. Assumes nothing.
+-- What the programs print and write is what the library's contracts settle. Of all that the contracts of `look_bytes`, `show_bytes`, `list_bytes`, `judge_bytes`
+-- and `fold_bytes` allow, from the bytes read to the bytes printed and written: these are the front of a buffer, as many as the answer says. Assumes nothing.
 use Prim.Native.Nat.{ℕ, _*_, _≤_, _<_}
 use mathlib.Core.Path.{_≡_, refl, sym, ap, _∙_}
 use mathlib.Core.Logic.{_↔_, _≢_, inl}
-use mathlib.Core.List.{List, [], _∷_, _++_}
+use mathlib.Core.List.{List, [], _∷_, _++_, append-nil}
 use native.Mathlib.Decide.{ℕ-discrete, decLt}
 use native.Mathlib.Omega.{arith}
 use lib.ListN.{length, take, drop}
 use Rattle.table.specs.Verdict.{Demand, Verdict}
 use Rattle.table.specs.Table.{Below, Table, size, edges}
-use Rattle.layout.specs.Image.{imageOf, tableOf}
-use Rattle.image.specs.Contracts.{imageDemands}
-use Rattle.image.proofs.ReadLaws.{table-sound}
+use Rattle.table.proofs.VerdictLaws.{verdict-unique}
+use Rattle.layout.specs.Image.{imageOf, verticesOf, edgesOf, tableOf}
+use Rattle.layout.proofs.ImageLaws.{starts-long, targets-long}
+use Rattle.image.specs.declared.header.Sizes.{Sizes}
+use Rattle.image.specs.Contracts.{imageDemands, Looked}
+use Rattle.image.proofs.LookLaws.{table-sound}
 use Rattle.bubble.specs.Cycle.{Cyclic}
 use Rattle.listing.specs.declared.Found.{Found}
 use Rattle.listing.specs.Listing.{ListDone}
@@ -23,12 +26,13 @@ use Rattle.rule.specs.Fold.{Candidate, first-takes-all}
 use Rattle.rule.specs.Tables.{TableFolded}
 use Rattle.rule.specs.Way.{the-fold}
 use Rattle.rule.proofs.TheFold.{the-fold-lawful}
-use Rattle.texts.specs.Text.{text, refusalLines, tableLines, listLines, judgementLines, foldLines}
-use Rattle.texts.proofs.FirstWord.{refusal-no-table, refusal-no-list, refusal-no-judgement, refusal-no-fold}
+use Rattle.texts.specs.Text.{line, text, each, refusalLines, sizesLine, lookLines, vertexLine, tableLines, listLines, judgementLines, foldLines}
+use Rattle.texts.proofs.FirstWord.{refusal-no-look, refusal-no-table, refusal-no-list, refusal-no-judgement, refusal-no-fold}
 use Rattle.texts.proofs.Determined.{refusal-determines}
 use Rattle.printing.specs.declared.Answer.{Answer}
 use Rattle.printing.specs.Answered.{Answered}
 use Rattle.printing.proofs.PutLaws.{front-bytes, behind-front}
+use Rattle.look_bytes.specs.Look.{LookAnswer}
 use Rattle.show_bytes.specs.Show.{ShowAnswer}
 use Rattle.list_bytes.specs.Lines.{ListAnswer}
 use Rattle.judge_bytes.specs.Line.{JudgeAnswer}
@@ -49,10 +53,32 @@ right-text : {demands : List Demand} {Right : List ℕ → Type 0} {out out′ :
     → take (answer .length) out′ ≡ done .printed
 right-text done = front-bytes (done .at-front)
 
--- Show prints the table that stands in the image,
+-- Look prints the n and m that a call of look answers,
+pub look-prints : (image : List ℕ) {out out′ : List ℕ} {answer : Answer} → LookAnswer image out out′ answer → answer .number ≡ 0
+    → {looked : Sizes} → Looked image looked → take (answer .length) out′ ≡ text (lookLines (looked .vertices) (looked .edges))
+look-prints image {answer = answer} done e {looked} sees =
+    let zero : looked .number ≡ 0 = verdict-unique (imageDemands image) (looked .number) 0 (sees .verdict) (rw e at (done .verdict)) in
+    let (n-is, m-is) = sees .taken zero in
+    right-text done ∙ done .taken e ∙ (λ i. text (lookLines (sym n-is i) (sym m-is i)))
+
+-- show the table that stands in the image,
 pub show-prints : (image : List ℕ) {out out′ : List ℕ} {answer : Answer} → ShowAnswer image out out′ answer → answer .number ≡ 0
     → take (answer .length) out′ ≡ text (tableLines (tableOf image))
 show-prints image done e = right-text done ∙ done .taken e
+
+-- whose first line is the one that look prints,
+pub show-begins-with-look : (image : List ℕ) {out out′ seen seen′ : List ℕ} {answer shown : Answer} → LookAnswer image out out′ answer → ShowAnswer image seen seen′ shown
+    → answer .number ≡ 0 → (rest : List ℕ) × (take (shown .length) seen′ ≡ take (answer .length) out′ ++ rest)
+show-begins-with-look image {answer = answer} {shown = shown} looks shows e =
+    let table = tableOf image in
+    let zero : shown .number ≡ 0 = verdict-unique (imageDemands image) (shown .number) (answer .number) (shows .verdict) (looks .verdict) ∙ e in
+    let n-is : size (table .rows) ≡ verticesOf image = omega (arith, starts-long image) in
+    let rest = text (each (vertexLine table) (size (table .rows))) in (
+      rest,
+      show-prints image shows zero
+          ∙ (λ i. line (sizesLine (n-is i) (targets-long image i)) ++ rest)
+          ∙ ap (λ (front : List ℕ). front ++ rest) (sym (right-text looks ∙ looks .taken e ∙ append-nil (line (sizesLine (verticesOf image) (edgesOf image))))),
+    )
 
 -- list the list that a call of list on this table leaves, wherever there is room for it: the one that demand 2 speaks of,
 pub list-prints : (image : List ℕ) {out out′ : List ℕ} {answer : Answer} → ListAnswer image out out′ answer → answer .number ≡ 0
@@ -105,7 +131,7 @@ module _ (image : List ℕ) {out out′ new new′ : List ℕ} {budget : ℕ} {a
 
 -- ---- Who is answered.
 
--- Bytes of any content get a number: from show and list,
+-- Bytes of any content get a number: from look, show and list,
 pub bytes-get-number : (image : List ℕ) → (number : ℕ) × Verdict (imageDemands image) number
 bytes-get-number image = gives-number (imageDemands image) (image-decided image)
 
@@ -127,7 +153,12 @@ bytes-to-fold-get-number image =
 image-alone : (image : List ℕ) {number : ℕ} → Below 256 image → Verdict (imageDemands image) number → (number ≡ 0) ↔ GoodImage image
 image-alone image bytes v = let (there, back) = passed-exactly {image = image} [] tt bytes v in (λ e. there e .0, λ good. back (good, tt))
 
--- They are answered, and not refused, exactly if they are a good image: by show,
+-- They are answered, and not refused, exactly if they are a good image: by look,
+pub look-answers-exactly : (image : List ℕ) {out out′ : List ℕ} {answer : Answer} → Below 256 image → LookAnswer image out out′ answer
+    → (answer .number ≡ 0) ↔ GoodImage image
+look-answers-exactly image bytes done = image-alone image bytes (done .verdict)
+
+-- by show,
 pub show-answers-exactly : (image : List ℕ) {out out′ : List ℕ} {answer : Answer} → Below 256 image → ShowAnswer image out out′ answer
     → (answer .number ≡ 0) ↔ GoodImage image
 show-answers-exactly image bytes done = image-alone image bytes (done .verdict)
@@ -165,7 +196,7 @@ fold-refuses-cyclic image good cycle done = good-decides good (the-fold .asked (
 -- ---- What is printed where something is refused.
 
 module _ {demands : List Demand} {Right : List ℕ → Type 0} {out out′ : List ℕ} {answer : Answer} (done : Answered demands Right out out′ answer) where
-  -- Where show, list or judge refuses by N, the whole text is the line `refused N`;
+  -- Where look, show, list or judge refuses by N, the whole text is the line `refused N`;
   pub refusal-prints : answer .number ≢ 0 → take (answer .length) out′ ≡ text (refusalLines (answer .number))
   refusal-prints refusal = right-text done ∙ done .refused refusal
 
@@ -209,8 +240,13 @@ module _ (image : List ℕ) {out out′ new new′ : List ℕ} {budget : ℕ} {a
   pub fold-behind : (drop (answers .line) out′ ≡ drop (answers .line) out) × (drop (answers .image) new′ ≡ drop (answers .image) new)
   fold-behind = (behind-front (done .line-front), behind-front (done .image-front))
 
--- The line of a refusal is the text of no table, list, judgement or fold, and it says its number alone. So the user can tell from it which case she has: she reads
--- `refused N` exactly if the number is N, and not 0. From show,
+-- The line of a refusal is the text of no look, table, list, judgement or fold, and it says its number alone. So the user can tell from it which case she has: she reads
+-- `refused N` exactly if the number is N, and not 0. From look,
+pub look-tells : (image : List ℕ) {out out′ : List ℕ} {answer : Answer} → LookAnswer image out out′ answer
+    → (r : ℕ) → (take (answer .length) out′ ≡ text (refusalLines r)) ↔ ((answer .number ≡ r) × (r ≢ 0))
+look-tells image done = tells done (λ printed right r same. refusal-no-look r (verticesOf image) (edgesOf image) (same ∙ right))
+
+-- from show,
 pub show-tells : (image : List ℕ) {out out′ : List ℕ} {answer : Answer} → ShowAnswer image out out′ answer
     → (r : ℕ) → (take (answer .length) out′ ≡ text (refusalLines r)) ↔ ((answer .number ≡ r) × (r ≢ 0))
 show-tells image done = tells done (λ printed right r same. refusal-no-table r (tableOf image) (same ∙ right))

@@ -12,7 +12,7 @@ use Rattle.table.proofs.VerdictLaws.{verdict-unique}
 use Rattle.table.proofs.Accepted.{well-formed-accepted, counted-accepted}
 use Rattle.layout.specs.Image.{imageLength, imageOf}
 use Rattle.image.specs.declared.header.Sizes.{Sizes}
-use Rattle.image.specs.Contracts.{Read}
+use Rattle.image.specs.Contracts.{Looked, Loaded}
 use Rattle.writing.specs.declared.Extent.{Extent}
 use Rattle.writing.specs.Writing.{Written}
 use Rattle.writing.proofs.WriteLaws.{table-written}
@@ -30,7 +30,7 @@ use Rattle.rule.proofs.Listings.{listing-unique}
 use Rattle.rule.proofs.Remaining.{remaining-listed, items-number}
 use Rattle.rule.proofs.TheFold.{the-fold-lawful}
 use Rattle.promises.specs.Calls.{Foldable, FoldCall}
-use Rattle.promises.proofs.RoundTrip.{image-read}
+use Rattle.promises.proofs.RoundTrip.{image-seen, image-loaded}
 use Rattle.promises.proofs.Demand2.{list-exact, foldable-kind, fold-by-rule}
 
 -- ---- Refusing everything: a well-formed table is given 0, without its counts and with them;
@@ -41,15 +41,18 @@ check-accepts rows number ok v = verdict-unique (tableDemands rows) number 0 v (
 pub check-counted-accepts : (table : Table) (number : ℕ) → SoundTable table → Verdict (countedDemands table) number → number ≡ 0
 check-counted-accepts table number ok v = verdict-unique (countedDemands table) number 0 v (counted-accepted table ok)
 
--- with room it is written, and its image is read. List, judge and fold are `list-accepted`, `judged` and `fold-accepted` of Demand2.
+-- with room it is written, look takes its image, and with room it is loaded. List, judge and fold are `list-accepted`, `judged` and `fold-accepted` of Demand2.
 
 pub write-accepts : {table : Table} {image image′ : List ℕ} {answer : Extent} → SoundTable table
     → imageLength (size (table .rows)) (length (table .rows .targets)) ≤ length image → Written table image image′ answer → answer .number ≡ 0
 write-accepts = table-written
 
-pub read-accepts : {table lent after : Table} {answer : Sizes} → SoundTable table → roomFor (size (table .rows)) (length (table .rows .targets)) lent .met
-    → Read (imageOf table) lent after answer → answer .number ≡ 0
-read-accepts = image-read
+pub look-accepts : {table : Table} {answer : Sizes} → SoundTable table → Looked (imageOf table) answer → answer .number ≡ 0
+look-accepts = image-seen
+
+pub load-accepts : {table lent after : Table} {answer : Sizes} → SoundTable table → roomFor (size (table .rows)) (length (table .rows .targets)) lent .met
+    → Loaded (imageOf table) lent after answer → answer .number ≡ 0
+load-accepts = image-loaded
 
 -- ---- The same list for all: tables that get the same list have the same superbubbles.
 

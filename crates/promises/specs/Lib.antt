@@ -2,5 +2,6 @@
 pub mod Images
 pub mod Lines
 pub mod RoundTrip
+pub mod InARow
 pub mod Calls
 pub mod Runs

@@ -10,9 +10,9 @@ use Rattle.table.specs.Limits.{vertex-limit}
 use Rattle.table.specs.Table.{Table, SoundTable, Below, row, size}
 use Rattle.table.proofs.RowLaws.{next-start, row-below}
 use Rattle.table.proofs.SumLaws.{count-most}
-use Rattle.texts.specs.Text.{decimal, following, line, text, numbered, each, vertexLine, tableLines}
+use Rattle.texts.specs.Text.{decimal, following, line, text, numbered, each, sizesLine, vertexLine, tableLines}
 use Rattle.texts.proofs.Decimal.{decimal-long}
-use Rattle.texts.proofs.LineLaws.{following-next, text-next}
+use Rattle.texts.proofs.LineLaws.{following-next, text-next, sizes-line-most}
 
 -- ---- Successors, one behind the other.
 
@@ -81,22 +81,19 @@ module _ {table : Table} (ok : SoundTable table) where
         next-start (ok .well-formed) k (omega arith),
       ))
 
-  -- the line `table N M` by its words, a blank before each but the first, and the line feed
-  pub heading-long : 5 + (1 + length (decimal (length (table .counts)))) + (1 + length (decimal (length (table .rows .targets)))) + 1 ≤ 16
+  -- the line `table N M`
+  pub heading-long : length (line (sizesLine (length (table .counts)) (length (table .rows .targets)))) ≤ 16
   heading-long =
       let whole = ok .well-formed in
-      omega (
-        arith,
-        decimal-long 4 (length (table .counts)) (omega arith) (omega (arith, ok .count-each, whole .most-vertices)),
-        decimal-long 4 (length (table .rows .targets)) (omega arith) (omega (arith, whole .most-edges)),
-      )
+      sizes-line-most (length (table .counts)) (length (table .rows .targets)) (omega (arith, ok .count-each, whole .most-vertices)) (whole .most-edges)
 
   -- the text: that line, and the lines of the vertices
-  pub table-by-words :
+  pub table-by-lines :
       length (text (tableLines table))
-      ≡ 5 + (1 + length (decimal (length (table .counts)))) + (1 + length (decimal (length (table .rows .targets)))) + 1
-      + length (text (each (vertexLine table) (size (table .rows))))
-  table-by-words = rw (ok .count-each) (simp length-append (omega arith))
+      ≡ length (line (sizesLine (length (table .counts)) (length (table .rows .targets)))) + length (text (each (vertexLine table) (size (table .rows))))
+  table-by-lines =
+      let n = size (table .rows) in
+      rw (ok .count-each) (length-append (line (sizesLine n (length (table .rows .targets)))) (text (each (vertexLine table) n)))
 
   -- and how long it is
   pub table-long : length (text (tableLines table)) ≤ 79888
@@ -104,7 +101,7 @@ module _ {table : Table} (ok : SoundTable table) where
       let whole = ok .well-formed in
       omega (
         arith,
-        table-by-words,
+        table-by-lines,
         heading-long,
         vertices-long (size (table .rows)) (omega arith),
         whole .starts-fit .ends,

@@ -1,19 +1,20 @@
 -- The text of a table put piece by piece: a row by its successors, the line of a vertex by its words, the vertices by their lines; and what show answers. Assumes nothing.
 use Prim.Native.Nat.{ℕ, _+_, _≤_, _<_}
-use mathlib.Core.Path.{_≡_, refl, sym, subst, ap}
+use mathlib.Core.Path.{_≡_, sym, ap}
 use mathlib.Core.List.{List, [], _∷_, map, append-assoc}
 use lib.ListN.{length, getD, take}
 use lib.Seq.{take-all}
 use Rattle.table.specs.Table.{Table, SoundTable, size}
-use Rattle.table.specs.Lent.{fronts}
 use Rattle.table.proofs.VerdictLaws.{accepts}
-use Rattle.image.specs.Contracts.{imageDemands}
-use Rattle.image.proofs.TakenLaws.{TakenTable}
-use Rattle.texts.specs.Text.{bytes, decimal, following, line, text, named, numbered, each, vertexLine, tableLines}
+use Rattle.layout.specs.Image.{tableOf}
+use Rattle.image.specs.declared.header.Sizes.{Sizes}
+use Rattle.image.specs.Contracts.{imageDemands, Looked}
+use Rattle.image.proofs.LookLaws.{looked-met}
+use Rattle.texts.specs.Text.{decimal, following, line, text, numbered, each, sizesLine, vertexLine, tableLines}
 use Rattle.texts.proofs.EachLaws.{each-next}
 use Rattle.printing.specs.declared.Answer.{Answer}
 use Rattle.printing.specs.Put.{AtFront, Put}
-use Rattle.printing.proofs.PutLaws.{put-same, put-then, put-first, put-next, at-front}
+use Rattle.printing.proofs.PutLaws.{put-same, put-then, at-front}
 use Rattle.printing.proofs.AnsweredLaws.{text-answers}
 use Rattle.show_bytes.specs.Show.{ShowAnswer}
 use Rattle.show_bytes.proofs.Long.{successors-next}
@@ -43,20 +44,15 @@ pub put-next-vertex : (table : Table) (v : ℕ) {a b c : List ℕ} {at place end
 put-next-vertex table v put next = put-same (sym (each-next (vertexLine table) v)) (put-then put next)
 
 -- `table N M`, and the vertices
-pub put-table-text : {table : Table} → SoundTable table → {a b c d e f : List ℕ} {i j k l end : ℕ} → Put a 0 (bytes "table") b i
-    → Put b i (32 ∷ decimal (length (table .counts))) c j → Put c j (32 ∷ decimal (length (table .rows .targets))) d k → Put d k (10 ∷ []) e l
-    → Put e l (text (each (vertexLine table) (size (table .rows)))) f end → AtFront (text (tableLines table)) a f end
-put-table-text {table} ok word vertices edges feed lines =
-    let n = size (table .rows) in
-    let m = length (table .rows .targets) in
-    let begins = put-next (named "table" []) (decimal n) (put-first word) (rw (ok .count-each) at vertices) in
-    at-front (put-then (put-then (put-next (named "table" (n ∷ [])) (decimal m) begins edges) feed) lines)
+pub put-table-text : {table : Table} → SoundTable table → {a b c : List ℕ} {place end : ℕ}
+    → Put a 0 (line (sizesLine (length (table .counts)) (length (table .rows .targets)))) b place
+    → Put b place (text (each (vertexLine table) (size (table .rows)))) c end → AtFront (text (tableLines table)) a c end
+put-table-text ok heading lines = at-front (put-then (rw (ok .count-each) at heading) lines)
 
 -- ---- What is answered.
 
--- the table at the fronts of the arrays is the one in the image that was taken in
-pub table-answers : {image : List ℕ} {after : Table} {n m : ℕ} {out out′ : List ℕ} {answer : Answer} → TakenTable image after n m → answer .number ≡ 0
-    → AtFront (text (tableLines (fronts n m after))) out out′ (answer .length) → ShowAnswer image out out′ answer
-table-answers {image} {out = out} {out′} {answer} taken none at =
-    text-answers none (accepts (imageDemands image) (taken .met)) refl
-    (subst (λ (table : Table). AtFront (text (tableLines table)) out out′ (answer .length)) (taken .fronts-are) at)
+-- of an image that look accepts the text of its table is the answer
+pub table-answers : {image : List ℕ} {looked : Sizes} {table : Table} {out out′ : List ℕ} {answer : Answer} → Looked image looked → looked .number ≡ 0
+    → table ≡ tableOf image → answer .number ≡ 0 → AtFront (text (tableLines table)) out out′ (answer .length) → ShowAnswer image out out′ answer
+table-answers {image} sees e same none =
+    text-answers none (accepts (imageDemands image) (looked-met sees e)) (ap (λ (table : Table). text (tableLines table)) same)

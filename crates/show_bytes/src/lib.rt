@@ -89,14 +89,11 @@ fn put_table(out: &mut [u8; LONGEST], starts: &[u32], targets: &[u32], counts: &
         r
         ⌝ }
 {
-    let mut place = printing::word(out, 0, b"table");
-    place = printing::next_number(out, place, counts.len() as u64);
-    place = printing::next_number(out, place, targets.len() as u64);
-    place = printing::end_line(out, place);
+    let place = printing::sizes(out, counts.len(), targets.len());
     put_vertices(out, place, starts, targets, counts)
 }
 
-// Puts the table of an image, or the line of its refusal, with arrays to take it in.
+// Puts the table of an image, or the line of its refusal, with arrays to load it into.
 fn answer_with(
     image: &[u8],
     starts: &mut [u32; START_LIMIT],
@@ -107,7 +104,7 @@ fn answer_with(
     ensures { λ r. ⌜ ShowAnswer (now (image .entry)) (now (out .entry)) (now (out .exit)) r ⌝ }
     ensures { λ r. ⌜ Counts (r .length) (now (out .exit)) ⌝ }
 {
-    let sizes = image::take_in(image, starts, targets, counts);
+    let sizes = taking::take_in(image, starts, targets, counts);
     if sizes.number != 0 {
         return printing::refusal(out, sizes.number);
     }

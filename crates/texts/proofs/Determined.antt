@@ -10,10 +10,10 @@ use lib.ListN.{length, getD}
 use lib.Seq.{ext-getD}
 use Rattle.table.specs.Table.{Table, SoundTable, size, row}
 use Rattle.table.proofs.SameRows.{same-by-row}
-use Rattle.texts.specs.Text.{decimal, Line, named, numbered, each, text, refusalLines, vertexLine, tableLines, pairLine, listLines, judgementLines, foldLines}
+use Rattle.texts.specs.Text.{decimal, Line, named, numbered, each, text, refusalLines, lookLines, vertexLine, tableLines, pairLine, listLines, judgementLines, foldLines}
 use Rattle.texts.proofs.EachLaws.{each-determines}
 use Rattle.texts.proofs.Decimal.{decimal-injective}
-use Rattle.texts.proofs.Plain.{plainRefusal, plainTable, plainList, plainJudgement, plainFold}
+use Rattle.texts.proofs.Plain.{plainRefusal, plainLook, plainTable, plainList, plainJudgement, plainFold}
 use Rattle.texts.proofs.Splitting.{text-determines}
 use Rattle.texts.proofs.FirstWord.{texts-differ}
 
@@ -44,6 +44,12 @@ pub refusal-determines : (r r′ : ℕ) → text (refusalLines r) ≡ text (refu
 refusal-determines r r′ same =
     let lines = text-determines (plainRefusal r) (plainRefusal r′) same in
     head-eq-of-cons-eq (headed-determines "refused" (r ∷ []) (r′ ∷ []) [] [] lines .0)
+
+pub look-determines : (n m n′ m′ : ℕ) → text (lookLines n m) ≡ text (lookLines n′ m′) → (n ≡ n′) × (m ≡ m′)
+look-determines n m n′ m′ same =
+    let lines = text-determines (plainLook n m) (plainLook n′ m′) same in
+    let numbers = headed-determines "table" (n ∷ m ∷ []) (n′ ∷ m′ ∷ []) [] [] lines .0 in
+    (head-eq-of-cons-eq numbers, head-eq-of-cons-eq (tail-eq-of-cons-eq numbers))
 
 -- the line of a vertex determines its count and its row
 vertex-determines : (table table′ : Table) (v : ℕ) → vertexLine table v ≡ vertexLine table′ v

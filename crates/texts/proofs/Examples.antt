@@ -4,7 +4,7 @@ use mathlib.Core.Path.{_≡_, refl}
 use mathlib.Core.Bool.{true, false}
 use mathlib.Core.List.{[], _∷_}
 use Rattle.table.specs.Table.{Table}
-use Rattle.texts.specs.Text.{bytes, decimal, text, refusalLines, tableLines, listLines, judgementLines, foldLines}
+use Rattle.texts.specs.Text.{bytes, decimal, text, refusalLines, lookLines, tableLines, listLines, judgementLines, foldLines}
 
 least-decimal : decimal 0 ≡ bytes "0"
 unfolding decimal
@@ -24,6 +24,10 @@ J =
       rows = record { starts = 0 ∷ 2 ∷ 4 ∷ 5 ∷ 6 ∷ 7 ∷ 8 ∷ 8 ∷ []; targets = 1 ∷ 5 ∷ 2 ∷ 3 ∷ 4 ∷ 4 ∷ 6 ∷ 6 ∷ [] };
       counts = 10 ∷ 4 ∷ 3 ∷ 2 ∷ 4 ∷ 12 ∷ 10 ∷ [];
     }
+
+look-text : text (lookLines 7 8) ≡ bytes "table 7 8\n"
+unfolding decimal
+look-text = refl
 
 table-text : text (tableLines J) ≡ bytes "table 7 8\n0 10 1 5\n1 4 2 3\n2 3 4\n3 2 4\n4 4 6\n5 12 6\n6 10\n"
 unfolding decimal

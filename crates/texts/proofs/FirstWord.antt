@@ -1,4 +1,5 @@
--- The first word of a text says which kind of answer it is: `no`, `table`, `folded`, `refused`, `superbubble` and `superbubbles` have six lengths. Assumes nothing.
+-- The first word of a text says which kind of answer it is: `no`, `table`, `folded`, `refused`, `superbubble` and `superbubbles` have six lengths; a look and a table share theirs.
+-- Assumes nothing.
 use Prim.Native.Nat.{ℕ}
 use mathlib.Core.Path.{ap}
 use mathlib.Core.Logic.{_≢_}
@@ -7,8 +8,8 @@ use mathlib.Core.List.{List, [], _∷_}
 use native.Mathlib.Omega.{arith}
 use lib.ListN.{length}
 use Rattle.table.specs.Table.{Table}
-use Rattle.texts.specs.Text.{Line, text, refusalLines, tableLines, listLines, judgementLines, foldLines}
-use Rattle.texts.proofs.Plain.{PlainLines, plainRefusal, plainTable, plainList, plainJudgement, plainFold}
+use Rattle.texts.specs.Text.{Line, text, refusalLines, lookLines, tableLines, listLines, judgementLines, foldLines}
+use Rattle.texts.proofs.Plain.{PlainLines, plainRefusal, plainLook, plainTable, plainList, plainJudgement, plainFold}
 use Rattle.texts.proofs.Splitting.{text-determines}
 
 -- how long the first word is
@@ -18,6 +19,9 @@ firstLong (l ∷ rest) = length (l .first)
 
 pub texts-differ : (a a′ : PlainLines) → firstLong (a .lines) ≢ firstLong (a′ .lines) → text (a .lines) ≢ text (a′ .lines)
 texts-differ a a′ differ same = differ (ap firstLong (text-determines a a′ same))
+
+pub refusal-no-look : (r n m : ℕ) → text (refusalLines r) ≢ text (lookLines n m)
+refusal-no-look r n m = texts-differ (plainRefusal r) (plainLook n m) (omega arith)
 
 pub refusal-no-table : (r : ℕ) (table : Table) → text (refusalLines r) ≢ text (tableLines table)
 refusal-no-table r table = texts-differ (plainRefusal r) (plainTable table) (omega arith)
@@ -31,6 +35,16 @@ refusal-no-judgement r false k = texts-differ (plainRefusal r) (plainJudgement f
 
 pub refusal-no-fold : (r folded left edges : ℕ) → text (refusalLines r) ≢ text (foldLines folded left edges)
 refusal-no-fold r folded left edges = texts-differ (plainRefusal r) (plainFold folded left edges) (omega arith)
+
+pub look-no-list : (n m : ℕ) (pairs : List ℕ) (found : ℕ) → text (lookLines n m) ≢ text (listLines pairs found)
+look-no-list n m pairs found = texts-differ (plainLook n m) (plainList pairs found) (omega arith)
+
+pub look-no-judgement : (n m : ℕ) (answer : Bool) (k : ℕ) → text (lookLines n m) ≢ text (judgementLines answer k)
+look-no-judgement n m true k = texts-differ (plainLook n m) (plainJudgement true k) (omega arith)
+look-no-judgement n m false k = texts-differ (plainLook n m) (plainJudgement false k) (omega arith)
+
+pub look-no-fold : (n m folded left edges : ℕ) → text (lookLines n m) ≢ text (foldLines folded left edges)
+look-no-fold n m folded left edges = texts-differ (plainLook n m) (plainFold folded left edges) (omega arith)
 
 pub table-no-list : (table : Table) (pairs : List ℕ) (found : ℕ) → text (tableLines table) ≢ text (listLines pairs found)
 table-no-list table pairs found = texts-differ (plainTable table) (plainList pairs found) (omega arith)

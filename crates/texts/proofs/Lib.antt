@@ -1,8 +1,8 @@
 -- The laws of texts, in the order in which one reads them. Assumes nothing.
 pub mod All
+pub mod Decimal
 pub mod LineLaws
 pub mod EachLaws
-pub mod Decimal
 pub mod Examples
 pub mod Plain
 pub mod Splitting

@@ -6,7 +6,7 @@ use mathlib.Core.List.{List, [], _∷_, map}
 use native.Mathlib.Omega.{arith}
 use lib.ListN.{length, getD}
 use Rattle.table.specs.Table.{Table, size, row}
-use Rattle.texts.specs.Text.{decimal, Line, numbered, refusalLines, vertexLine, tableLines, pairLine, listLines, judgementLines, foldLines}
+use Rattle.texts.specs.Text.{decimal, Line, numbered, refusalLines, lookLines, vertexLine, tableLines, pairLine, listLines, judgementLines, foldLines}
 use Rattle.texts.proofs.All.{All, all-made, all-so}
 use Rattle.texts.proofs.EachLaws.{each-all}
 use Rattle.texts.proofs.Decimal.{decimal-digits}
@@ -37,6 +37,9 @@ numbered-plain first numbers = (decimal-plain first, decimals-plain numbers)
 pub refusal-plain : (number : ℕ) → All PlainLine (refusalLines number)
 refusal-plain number = ((omega arith, decimals-plain (number ∷ [])), tt)
 
+pub look-plain : (n m : ℕ) → All PlainLine (lookLines n m)
+look-plain n m = ((omega arith, decimals-plain (n ∷ m ∷ [])), tt)
+
 vertex-plain : (table : Table) (v : ℕ) → PlainLine (vertexLine table v)
 vertex-plain table v = numbered-plain v (getD (table .counts) v 0 ∷ row (table .rows .starts) (table .rows .targets) v)
 
@@ -66,6 +69,9 @@ pub record PlainLines : Type 0 where
 
 abbrev pub plainRefusal : ℕ → PlainLines
 plainRefusal number = record { lines = refusalLines number; plain = refusal-plain number }
+
+abbrev pub plainLook : ℕ → ℕ → PlainLines
+plainLook n m = record { lines = lookLines n m; plain = look-plain n m }
 
 abbrev pub plainTable : Table → PlainLines
 plainTable table = record { lines = tableLines table; plain = table-plain table }

@@ -69,14 +69,21 @@ each l (suc k) = each l k ++ l k ∷ []
 abbrev pub refusalLines : ℕ → List Line
 refusalLines number = named "refused" (number ∷ []) ∷ []
 
+-- the line of n and m: `table N M`
+abbrev pub sizesLine : ℕ → ℕ → Line
+sizesLine n m = named "table" (n ∷ m ∷ [])
+
+-- a look: that line alone
+abbrev pub lookLines : ℕ → ℕ → List Line
+lookLines n m = sizesLine n m ∷ []
+
 -- the line of vertex v: its number, its count, its successors
 abbrev pub vertexLine : Table → ℕ → Line
 vertexLine table v = numbered v (getD (table .counts) v 0 ∷ row (table .rows .starts) (table .rows .targets) v)
 
--- a table: `table N M`, and a line for each vertex
+-- a table: the line of its n and m, and a line for each vertex
 abbrev pub tableLines : Table → List Line
-tableLines table =
-    named "table" (size (table .rows) ∷ length (table .rows .targets) ∷ []) ∷ each (vertexLine table) (size (table .rows))
+tableLines table = sizesLine (size (table .rows)) (length (table .rows .targets)) ∷ each (vertexLine table) (size (table .rows))
 
 -- line k of a list: entrance and exit
 abbrev pub pairLine : List ℕ → ℕ → Line

@@ -2,7 +2,7 @@
 use mathlib.Core.Path.{sym}
 use lib.Seq.{length-take-le}
 use Rattle.table.specs.Table.{Table}
-use Rattle.image.proofs.TakenLaws.{TakenTable, taken-table}
+use Rattle.taking.proofs.TakenLaws.{TakenTable, taken-table}
 use Rattle.printing.proofs.PutLaws.{front-counts}
 use Rattle.fold_bytes.proofs.FoldLaws.{image-refused, image-folded}
 use borrow.Author.Needs.{needs}
@@ -44,7 +44,7 @@ refused-requires c κs = search needs
 
 returns : tie.Need-returns
 returns c =
-    let done = image-refused (after-take-in c .take-in .ensures .0) (c .before .before .if1 .taken) (c .refused .ensures) in
+    let done = image-refused (after-take-in c .take-in .ensures .0 .looked) (c .before .before .if1 .taken) (c .refused .ensures) in
     (done, (front-counts (done .line-front), front-counts (done .image-front)))
 
 add-fold-table : tie.Need-add-fold-table
@@ -64,7 +64,8 @@ fold-table-requires c κs = taken (in-else1 (first-argument c)) .fronts-sound
 
 returns-2 : tie.Need-returns-2
 returns-2 c =
-    let done = image-folded (taken (in-else1 (first-argument (c .before)))) (c .fold-table .ensures) in
+    let start = in-else1 (first-argument (c .before)) in
+    let done = image-folded (start .before .before .take-in .ensures .0 .looked) (start .if1 .left) (taken start .fronts-same) (c .fold-table .ensures) in
     (done, (front-counts (done .line-front), front-counts (done .image-front)))
 
 pub answer-with-spec : {M : Type 1} → statement M

@@ -2,7 +2,7 @@
 use mathlib.Core.Path.{sym}
 use lib.Seq.{length-take-le}
 use Rattle.table.specs.Table.{Table}
-use Rattle.image.proofs.TakenLaws.{TakenTable, taken-table}
+use Rattle.taking.proofs.TakenLaws.{TakenTable, taken-table}
 use Rattle.printing.proofs.PutLaws.{front-counts}
 use Rattle.judge_bytes.proofs.JudgementLaws.{image-refused, image-judged}
 use borrow.Author.Needs.{needs}
@@ -41,7 +41,7 @@ refusal-requires c κs = search needs
 
 returns : tie.Need-returns
 returns c =
-    let done = image-refused (after-take-in c .take-in .ensures .0) (c .before .before .if1 .taken) (c .refusal .ensures) in
+    let done = image-refused (after-take-in c .take-in .ensures .0 .looked) (c .before .before .if1 .taken) (c .refusal .ensures) in
     (done, front-counts (done .at-front))
 
 add-judge-table : tie.Need-add-judge-table
@@ -58,7 +58,8 @@ judge-table-requires c κs = taken (in-else1 (c .before .before)) .fronts-sound 
 
 returns-2 : tie.Need-returns-2
 returns-2 c =
-    let done = image-judged (taken (in-else1 (c .before .before .before))) (c .judge-table .ensures) in
+    let start = in-else1 (c .before .before .before) in
+    let done = image-judged (start .before .before .take-in .ensures .0 .looked) (start .if1 .left) (taken start .fronts-same) (c .judge-table .ensures) in
     (done, front-counts (done .at-front))
 
 pub answer-with-spec : {M : Type 1} → statement M

@@ -3,7 +3,7 @@ use mathlib.Core.Path.{refl, sym}
 use lib.Seq.{length-take-le}
 use borrow.Author.Needs.{needs}
 use Rattle.table.specs.Table.{Table}
-use Rattle.image.proofs.TakenLaws.{TakenTable, taken-table}
+use Rattle.taking.proofs.TakenLaws.{TakenTable, taken-table}
 use Rattle.printing.proofs.PutLaws.{front-counts}
 use Rattle.printing.proofs.AnsweredLaws.{refusal-answers}
 use Rattle.show_bytes.proofs.PutTable.{table-answers}
@@ -42,7 +42,7 @@ refusal-requires c κs = search needs
 
 returns : tie.Need-returns
 returns c =
-    let done = refusal-answers (c .before .before .if1 .taken) (after-take-in c .take-in .ensures .0 .judged .verdict) (c .refusal .ensures) in
+    let done = refusal-answers (c .before .before .if1 .taken) (after-take-in c .take-in .ensures .0 .looked .verdict) (c .refusal .ensures) in
     (done, front-counts (done .at-front))
 
 add-put-table : tie.Need-add-put-table
@@ -62,8 +62,9 @@ put-table-requires c κs = taken (in-else1 (c .before .before)) .fronts-sound
 
 returns-2 : tie.Need-returns-2
 returns-2 c =
+    let start = in-else1 (c .before .before .before) in
     let done = c .put-table .ensures in
-    (table-answers (taken (in-else1 (c .before .before .before))) refl done, front-counts done)
+    (table-answers (start .before .before .take-in .ensures .0 .looked) (start .if1 .left) (taken start .fronts-same) refl done, front-counts done)
 
 pub answer-with-spec : {M : Type 1} → statement M
 answer-with-spec =

@@ -1,0 +1,20 @@
+// Looking at an image: whether it is sound, and how big. Nothing is stored: the table is checked where it stands.
+ghost use Rattle.image.specs.Contracts.{Looked};
+use crate::header::Sizes;
+use crate::header::judge_header;
+use crate::header::refused;
+
+// Looks at an image: 10, 11, 1, 2, 12, 3, 4, 5, 7, in this order, or 0 with n and m.
+pub fn look(image: &[u8]) -> Sizes
+    ensures { λ r. ⌜ Looked (now (image .entry)) r ⌝ }
+{
+    let sizes = judge_header(image);
+    if sizes.number != 0 {
+        return sizes;
+    }
+    let number = in_place::check(image, sizes.vertices, sizes.edges);
+    if number != 0 {
+        return refused(number);
+    }
+    sizes
+}

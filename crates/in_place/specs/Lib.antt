@@ -1,0 +1,2 @@
+-- The definitions of `in_place`. Assumes nothing.
+pub mod InPlace

@@ -1,0 +1,2 @@
+-- The definitions of `look_bytes`. Assumes nothing.
+pub mod Look

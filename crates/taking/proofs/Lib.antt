@@ -1,0 +1,3 @@
+-- The laws of `taking`. Assumes nothing.
+pub mod TakenLaws
+pub mod Determined

@@ -1,0 +1,2 @@
+-- The definitions of `taking`. Assumes nothing.
+pub mod Taking
