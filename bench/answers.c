@@ -1,6 +1,6 @@
 // Whether the library and the plain C give the same answers, asked where a wrong one would differ: on the graphs A to
-// L, on small tables full of superbubbles, on damaged tables, with exact room and one less, and on both sides of each
-// limit. Every comparison is counted, and takes in all the memory that was lent.
+// L, on small tables full of superbubbles, on damaged tables and damaged images, with exact room and one less, and on
+// both sides of each limit. Every comparison is counted, and takes in all the memory that was lent.
 #include "bench.h"
 
 // ---- the count
@@ -26,7 +26,22 @@ void same(const char *operation, void (*our)(void), void (*their)(void)) {
 
 // ---- one comparison of each call; bit k of its numbers says that it gave number k
 
-static u32 list_numbers, judge_numbers, fold_numbers;
+static u32 look_numbers, load_numbers, write_numbers, list_numbers, judge_numbers, fold_numbers;
+
+static void look(void) {
+    same("look", gohardim_looks, plain_looks);
+    look_numbers |= 1u << ours.number;
+}
+
+static void load(void) {
+    same("load", gohardim_loads, plain_loads);
+    load_numbers |= 1u << ours.number;
+}
+
+static void write(void) {
+    same("write", gohardim_writes, plain_writes);
+    write_numbers |= 1u << ours.number;
+}
 
 static void list(void) {
     same("list", gohardim_lists, plain_lists);
@@ -43,7 +58,15 @@ static void fold(void) {
     fold_numbers |= 1u << ours.number;
 }
 
-static void each_call(void) {
+static void look_and_load(void) {
+    look();
+    load();
+}
+
+static void each_call(void) { // on the table at hand, and on its image
+    make_image();
+    look_and_load();
+    write();
     list();
     judge();
     fold();
@@ -56,6 +79,7 @@ static void lend_exact_room(void) {
     lent.starts2 = table.n + 1;
     lent.targets2 = table.m;
     lent.counts2 = table.n;
+    lent.image2 = 13 + 4 * (table.n + 1) + 4 * table.m + 8 * table.n;
 }
 
 static void with_one_less(usize *length, void (*call)(void)) {
@@ -65,14 +89,35 @@ static void with_one_less(usize *length, void (*call)(void)) {
     ++*length;
 }
 
-static void compare_rooms(void) { // more than is needed, exactly that, and each by itself one less
+static void load_and_fold(void) {
+    load();
+    fold();
+}
+
+static void compare_rooms(void) { // more than is needed, none, exactly that, and each by itself one less
+    each_call();
+    lent.out = lent.starts2 = lent.targets2 = lent.counts2 = lent.image2 = 0;
     each_call();
     lend_exact_room();
     each_call();
     with_one_less(&lent.out, list);
-    with_one_less(&lent.starts2, fold);
-    with_one_less(&lent.targets2, fold);
-    with_one_less(&lent.counts2, fold);
+    with_one_less(&lent.starts2, load_and_fold);
+    with_one_less(&lent.targets2, load_and_fold);
+    with_one_less(&lent.counts2, load_and_fold);
+    with_one_less(&lent.image2, write);
+}
+
+static void compare_there_and_back(void) { // what is loaded is the table, and what is written is its image
+    make_image();
+    gohardim_loads();
+    _Bool loaded = ours.number == 0 && ours.vertices == table.n && ours.edges == table.m &&
+                   memcmp(ours.starts2, table.starts, (table.n + 1) * sizeof *table.starts) == 0 &&
+                   memcmp(ours.targets2, table.targets, table.m * sizeof *table.targets) == 0 &&
+                   memcmp(ours.counts2, table.counts, table.n * sizeof *table.counts) == 0;
+    count(loaded, "load", "not the table of the image");
+    gohardim_writes();
+    _Bool written = ours.number == 0 && ours.length == lent.image && memcmp(ours.image2, image, lent.image) == 0;
+    count(written, "write", "not the image of the table");
 }
 
 static void compare_budgets(void) { // 0, 1, 2, 3, and the powers of two; the rooms are compared with ALL
@@ -128,8 +173,8 @@ static void with_largest_sums(u64 *count) { // reached, passed by one, and so la
 }
 
 static void compare_damages(void) {
-    usize *const lengths[] = {&lent.starts,  &lent.targets,  &lent.counts, &lent.out,
-                              &lent.starts2, &lent.targets2, &lent.counts2};
+    usize *const lengths[] = {&lent.starts,  &lent.targets,  &lent.counts,  &lent.out,
+                              &lent.starts2, &lent.targets2, &lent.counts2, &lent.image2};
     lend_exact_room();
     for (usize k = 0; k < sizeof lengths / sizeof *lengths; k++) {
         with_one_less(lengths[k], each_call);
@@ -142,23 +187,71 @@ static void compare_damages(void) {
     for (usize v = 0; v < table.n; v++) with_largest_sums(&table.counts[v]);
 }
 
-// ---- of several numbers the smallest: graph K with every choice of ten damages, each of which earns one number
+// ---- an image that is cut short, has a byte more, or is damaged at one byte
+
+static void compare_image_damages(void) {
+    lend_exact_room();
+    make_image();
+    usize length = lent.image;
+    for (lent.image = 0; lent.image <= length + 1; lent.image++) look_and_load();
+    lent.image = length;
+    for (usize k = 0; k < length; k++) {
+        u8 before = image[k];
+        const u8 others[] = {before + 1, before - 1, before ^ 128, 0};
+        for (usize i = 0; i < sizeof others; i++) {
+            image[k] = others[i];
+            look_and_load();
+        }
+        image[k] = before;
+    }
+}
+
+static void compare_image_limits(void) { // n and m at their limits and past them, in an image that lacks a byte
+    make_graph('A');
+    for (table.n = MOST; table.n <= MOST + 1; table.n++)
+        for (table.m = MOST_EDGES; table.m <= MOST_EDGES + 1; table.m++) {
+            make_image();
+            lent.image--;
+            look_and_load();
+        }
+}
+
+// ---- of several numbers the first: graph K with every choice of ten damages, each of which earns one number
 
 static void compare_choices(void) {
     for (u32 choice = 0; choice < 1u << 10; choice++) {
         make_graph('K');
         lend_exact_room();
-        if (choice & 1) lent.starts = 0;                      // 1
-        if (choice & 2) lent.targets = MOST_EDGES + 1;        // 2
-        if (choice & 4) table.starts[0] = 1;                  // 3
-        if (choice & 8) table.targets[7] = table.n;           // 4
-        if (choice & 16) table.targets[1] = table.targets[0]; // 5
-        if (choice & 32) lent.counts--;                       // 6
-        if (choice & 64) table.counts[0] = MOST_COUNTED;      // 7
-        if (choice & 128) lent.out--, lent.counts2--;         // 8
-        if (choice & 256) table.targets[2] = 1;               // 9, by a self-loop
-        if (choice & 512) asked.s = table.n;                  // 13
+        if (choice & 1) lent.starts = 0;                             // 1
+        if (choice & 2) lent.targets = MOST_EDGES + 1;               // 2
+        if (choice & 4) table.starts[0] = 1;                         // 3
+        if (choice & 8) table.targets[7] = table.n;                  // 4
+        if (choice & 16) table.targets[1] = table.targets[0];        // 5
+        if (choice & 32) lent.counts--;                              // 6
+        if (choice & 64) table.counts[0] = MOST_COUNTED;             // 7
+        if (choice & 128) lent.out--, lent.counts2--, lent.image2--; // 8
+        if (choice & 256) table.targets[2] = 1;                      // 9, by a self-loop
+        if (choice & 512) asked.s = table.n;                         // 13
         each_call();
+    }
+}
+
+static void compare_image_choices(void) {
+    for (u32 choice = 0; choice < 1u << 10; choice++) {
+        make_graph('K');
+        lend_exact_room();
+        if (choice & 32) table.starts[0] = 1;                  // 3
+        if (choice & 64) table.targets[7] = table.n;           // 4
+        if (choice & 128) table.targets[1] = table.targets[0]; // 5
+        if (choice & 256) table.counts[0] = MOST_COUNTED;      // 7
+        if (choice & 512) lent.targets2--;                     // 8
+        make_image();
+        if (choice & 1) image[2]++;    // 10
+        if (choice & 2) image[4]++;    // 11
+        if (choice & 4) image[8]++;    // 1
+        if (choice & 8) image[12]++;   // 2
+        if (choice & 16) lent.image--; // 12
+        look_and_load();
     }
 }
 
@@ -200,6 +293,21 @@ static void compare_far(void) {
     for (usize k = 0; k < table.m; k++) with_far_numbers(&table.targets[k], each_call);
 }
 
+// ---- images: each byte of a header, too, can make a number far too large
+
+static void compare_images(void) {
+    for (char letter = 'A'; letter <= 'L'; letter++) {
+        make_graph(letter);
+        compare_there_and_back();
+        compare_image_damages();
+    }
+    make_random("acyclic", MOST, MOST_EDGES, 0);
+    compare_there_and_back();
+    compare_rooms();
+    compare_image_limits();
+    compare_image_choices();
+}
+
 // ---- all of it
 
 void compare_answers(void) {
@@ -230,7 +338,11 @@ void compare_answers(void) {
     compare_limits();
     // A side that takes a number far too large reads far outside of what it was lent, and may not come back.
     if (failed == 0) compare_far();
+    if (failed == 0) compare_images();
     table.name = "all cases together";
+    count(look_numbers == (0xbf | 7u << 10), "look", "the numbers given are not 0 to 5, 7 and 10 to 12");
+    count(load_numbers == (0x1bf | 7u << 10), "load", "the numbers given are not 0 to 5, 7, 8 and 10 to 12");
+    count(write_numbers == 0x1ff, "write", "the numbers given are not 0 to 8");
     count(list_numbers == (0x3f | 1u << 8), "list", "the numbers given are not 0 to 5 and 8");
     count(judge_numbers == (0x3f | 1u << 13), "judge", "the numbers given are not 0 to 5 and 13");
     count(fold_numbers == 0x3ff, "fold", "the numbers given are not 0 to 9");

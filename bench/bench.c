@@ -1,7 +1,8 @@
-// Times the library's list, judge and fold against the same in plain C, on the tables of tables.c, and looks how deep
-// the library's calls reach into the stack. The two sides take turns, the fastest of many rounds counts, and each
-// answer is compared: a difference ends the run. With the argument `answers` nothing is timed: it compares the answers
-// on the same tables and on those of answers.c, looks whether the stack stays below 256 KB, and prints the count.
+// Times the library's look, load and write, list, judge and fold against the same in plain C, on the tables of tables.c
+// and their images, and looks how deep the library's calls reach into the stack. The two sides take turns, the fastest
+// of many rounds counts, and each answer is compared: a difference ends the run. With the argument `answers` nothing is
+// timed: it compares the answers on the same tables and on those of answers.c, looks whether the stack stays below
+// 256 KB, and prints the count.
 #include "bench.h"
 
 struct timespec {
@@ -16,11 +17,25 @@ void give_up(const char *why) {
     exit(1);
 }
 
-// ---- the calls, on the table at hand; each side has its own answers
+// ---- the calls, on the table or the image at hand; each side has its own answers
 
 struct answers ours, theirs;
 
 #define SIDE(NAME, ANSWERS)                                                                                          \
+    void NAME##_looks(void) {                                                                                        \
+        struct answers *a = &ANSWERS;                                                                                \
+        a->number = NAME##_look(image, lent.image, &a->vertices, &a->edges);                                         \
+    }                                                                                                                \
+    void NAME##_loads(void) {                                                                                        \
+        struct answers *a = &ANSWERS;                                                                                \
+        a->number = NAME##_load(image, lent.image, a->starts2, lent.starts2, a->targets2, lent.targets2, a->counts2, \
+                                lent.counts2, &a->vertices, &a->edges);                                              \
+    }                                                                                                                \
+    void NAME##_writes(void) {                                                                                       \
+        struct answers *a = &ANSWERS;                                                                                \
+        a->number = NAME##_write(table.starts, lent.starts, table.targets, lent.targets, table.counts, lent.counts,  \
+                                 a->image2, lent.image2, &a->length);                                                \
+    }                                                                                                                \
     void NAME##_lists(void) {                                                                                        \
         struct answers *a = &ANSWERS;                                                                                \
         a->number = NAME##_list(table.starts, lent.starts, table.targets, lent.targets, a->out, lent.out,            \
@@ -57,17 +72,28 @@ static __attribute__((noinline)) void soil_stack(void) {
     __asm__ volatile("" : : "r"(soiled) : "memory");
 }
 
+static usize answers_size(void) { // with as much of the image as is looked at
+    return __builtin_offsetof(struct answers, image2) + lent.image2 + BEHIND;
+}
+
+static _Bool same_answers(void) {
+    return memcmp(&ours, &theirs, answers_size()) == 0;
+}
+
 _Bool agree(void (*our)(void), void (*their)(void)) {
-    static struct table before;
+    static struct table table_before;
+    static u8 image_before[sizeof image];
     enum { UNTOUCHED = 1 }; // each byte before a call: one that a _Bool can have, too
-    memcpy(&before, &table, sizeof table);
-    memset(&ours, UNTOUCHED, sizeof ours);
-    memset(&theirs, UNTOUCHED, sizeof theirs);
+    memcpy(&table_before, &table, sizeof table);
+    memcpy(image_before, image, lent.image + BEHIND);
+    memset(&ours, UNTOUCHED, answers_size());
+    memset(&theirs, UNTOUCHED, answers_size());
     soil_stack();
     our();
     soil_stack();
     their();
-    return memcmp(&ours, &theirs, sizeof ours) == 0 && memcmp(&table, &before, sizeof table) == 0;
+    return same_answers() && memcmp(&table, &table_before, sizeof table) == 0 &&
+           memcmp(image, image_before, lent.image + BEHIND) == 0;
 }
 
 // ---- time
@@ -101,7 +127,7 @@ static struct times measure(void (*our)(void), void (*their)(void), double budge
         if (a < best.ours) best.ours = a;
         if (b < best.theirs) best.theirs = b;
     }
-    if (memcmp(&ours, &theirs, sizeof ours) != 0) give_up("the library and the plain C differ");
+    if (!same_answers()) give_up("the library and the plain C differ");
     return best;
 }
 
@@ -121,6 +147,13 @@ static void row(const char *operation, void (*our)(void), void (*their)(void), u
     fflush(0);
 }
 
+static void look_load_and_write(void) {
+    make_image();
+    row("look", gohardim_looks, plain_looks, 1);
+    row("load", gohardim_loads, plain_loads, 1);
+    row("write", gohardim_writes, plain_writes, 1);
+}
+
 static void list_and_fold(void) {
     row("list", gohardim_lists, plain_lists, 1);
     gohardim_folds();
@@ -133,18 +166,22 @@ static void heading(void) {
 
 static void compare(void) {
     make_chain(2048);
+    look_load_and_write();
     list_and_fold();
     make_cycle(2048);
     list_and_fold();
     make_nested(2040);
+    look_load_and_write();
     list_and_fold();
     make_comb(2048);
     list_and_fold();
     make_random("acyclic", 2048, 8192, 0);
+    look_load_and_write();
     list_and_fold();
     make_random("random", 2048, 8192, 1);
     list_and_fold();
     make_nested(64);
+    look_load_and_write();
     row("judge, each pair", gohardim_judges_each, plain_judges_each, table.n * table.n);
     make_nested(2040);
     row("judge, one pair", gohardim_judges, plain_judges, 1);
@@ -211,6 +248,11 @@ static void depth(const char *operation, void (*our)(void), void (*their)(void))
 }
 
 static void depths(void) {
+    make_random("acyclic", 2048, 8192, 0);
+    make_image();
+    depth("look", gohardim_looks, plain_looks);
+    depth("load", gohardim_loads, plain_loads);
+    depth("write", gohardim_writes, plain_writes);
     make_chain(2048);
     depth("list", gohardim_lists, plain_lists);
     depth("judge", gohardim_judges, plain_judges);

@@ -1,5 +1,5 @@
-// What the files here share: the table at hand (tables.c), the calls of both sides on it (bench.c), and the count of
-// what was compared (answers.c).
+// What the files here share: the table and the image at hand (tables.c), the calls of both sides on them (bench.c), and
+// the count of what was compared (answers.c).
 #include "plain.h"
 
 int printf(const char *format, ...);
@@ -7,7 +7,7 @@ int snprintf(char *to, usize size, const char *format, ...);
 int fflush(void *stream);
 void give_up(const char *why);
 
-enum { MOST = 2048, MOST_EDGES = 8192 };
+enum { MOST = 2048, MOST_EDGES = 8192, MOST_BYTES = 57361, BEHIND = 64 };
 #define MOST_COUNTED 1099511627775ul
 #define ALL 4294967295u
 
@@ -22,10 +22,13 @@ struct table {
 };
 extern struct table table;
 
+// The image at hand, which may be that of a table with one vertex and one edge more, and may be lent with a byte more.
+extern u8 image[MOST_BYTES + 12 + 4 + 1 + BEHIND];
+
 // How many numbers of each slice are lent: of those that are read, and of those that are stored to.
 struct lent {
-    usize starts, targets, counts;
-    usize out, starts2, targets2, counts2;
+    usize starts, targets, counts, image;
+    usize out, starts2, targets2, counts2, image2;
 };
 extern struct lent lent;
 
@@ -36,7 +39,7 @@ struct asked {
 extern struct asked asked;
 
 // Each makes the table at hand. Lent is all of it, and all the room there is; asked is a fold of all, and the first
-// vertex with the last, or with make_arms the superbubble.
+// vertex with the last, or with make_arms the superbubble. No image is lent.
 void make_chain(usize n);
 void make_cycle(usize n);
 void make_comb(usize n);
@@ -47,21 +50,28 @@ void make_superbubbles(usize n);
 void make_arms(usize n, u32 t);
 void make_drawn(u32 which, u32 most);
 
+// Makes the image of the table at hand, sound or not, and lends it.
+void make_image(void);
+
 // ---- bench.c
 
 // What one side answers: the number, the other fields, and the slices that are stored to.
 struct answers {
     u32 number, size;
-    usize found, folded, left, edges;
+    usize found, folded, left, vertices, edges, length;
     _Bool yes;
     u32 out[2 * MOST + 2], starts2[MOST + 2], targets2[MOST_EDGES + 1];
     u64 counts2[MOST + 1];
     u32 sizes[64 * 64]; // of every pair, where n is at most 64
+    u8 image2[sizeof image];
 };
 extern struct answers ours, theirs;
 
-// The calls of a side on the table at hand, by what is lent and asked.
+// The calls of a side on the table or the image at hand, by what is lent and asked.
 #define CALLS_AT_HAND(NAME)                                                                                          \
+    void NAME##_looks(void);                                                                                         \
+    void NAME##_loads(void);                                                                                         \
+    void NAME##_writes(void);                                                                                        \
     void NAME##_lists(void);                                                                                         \
     void NAME##_judges(void);                                                                                        \
     void NAME##_folds(void);
@@ -70,7 +80,7 @@ CALLS_AT_HAND(gohardim)
 CALLS_AT_HAND(plain)
 
 // Calls both sides. Says whether their answers are the same, with all the memory that was lent for them, and the table
-// is as before.
+// and the image are as before. Of an image's memory it looks at what is lent and at 64 bytes behind that.
 _Bool agree(void (*our)(void), void (*their)(void));
 
 // ---- answers.c

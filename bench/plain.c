@@ -1,5 +1,5 @@
-// List, judge and fold in plain C: the algorithms of the crates step by step, with the same checks, the same
-// working arrays and the same answers. The measure that the library is held against.
+// Look, load and write, list, judge and fold in plain C: the algorithms of the crates step by step, with the same
+// checks, the same working arrays and the same answers. The measure that the library is held against.
 #include "plain.h"
 
 enum { MOST = 2048, MOST_EDGES = 8192 };
@@ -30,6 +30,127 @@ static u32 check_counts(const u64 *counts, usize counts_len, usize n) {
         if (counts[v] > rest) return 7;
         rest -= counts[v];
     }
+    return 0;
+}
+
+// ---- look, load and write
+
+enum { HEADER = 13 };
+
+static usize image_length(usize n, usize m) {
+    return HEADER + 4 * (n + 1) + 4 * m + 8 * n;
+}
+
+static u32 word(const u8 *from) {
+    return from[0] | from[1] << 8 | from[2] << 16 | (u32)from[3] << 24;
+}
+
+static u64 long_word(const u8 *from) {
+    return word(from) | (u64)word(from + 4) << 32;
+}
+
+static void put_word(u8 *to, u32 x) {
+    to[0] = x;
+    to[1] = x >> 8;
+    to[2] = x >> 16;
+    to[3] = x >> 24;
+}
+
+static void put_long_word(u8 *to, u64 x) {
+    put_word(to, x);
+    put_word(to + 4, x >> 32);
+}
+
+// 10, 11, 1, 2, 12, or 0 with n and m.
+static u32 check_header(const u8 *image, usize image_len, usize *n, usize *m) {
+    if (image_len < HEADER || image[0] != 'S' || image[1] != 'B' || image[2] != 'T') return 10;
+    if (image[3] != 1 || image[4] != 0) return 11;
+    *n = word(image + 5);
+    if (*n > MOST) return 1;
+    *m = word(image + 9);
+    if (*m > MOST_EDGES) return 2;
+    if (image_len != image_length(*n, *m)) return 12;
+    return 0;
+}
+
+static void lay(const u8 *image, usize n, usize m, u32 *starts, u32 *targets, u64 *counts) {
+    const u8 *at = image + HEADER;
+    for (usize v = 0; v < n + 1; v++) starts[v] = word(at + 4 * v);
+    at += 4 * (n + 1);
+    for (usize k = 0; k < m; k++) targets[k] = word(at + 4 * k);
+    at += 4 * m;
+    for (usize v = 0; v < n; v++) counts[v] = long_word(at + 8 * v);
+}
+
+// 3, 4, 5, 7, or 0, of the table where it stands in the image.
+static u32 check_in_place(const u8 *image, usize n, usize m) {
+    const u8 *starts = image + HEADER, *targets = starts + 4 * (n + 1), *counts = targets + 4 * m;
+    if (word(starts) != 0) return 3;
+    for (usize v = 0; v < n; v++)
+        if (word(starts + 4 * (v + 1)) < word(starts + 4 * v)) return 3;
+    if (word(starts + 4 * n) != m) return 3;
+    for (usize k = 0; k < m; k++)
+        if (word(targets + 4 * k) >= n) return 4;
+    for (usize v = 0; v < n; v++)
+        for (usize k = word(starts + 4 * v); k + 1 < word(starts + 4 * (v + 1)); k++)
+            if (word(targets + 4 * (k + 1)) <= word(targets + 4 * k)) return 5;
+    u64 rest = MOST_COUNTED;
+    for (usize v = 0; v < n; v++) {
+        u64 count = long_word(counts + 8 * v);
+        if (count > rest) return 7;
+        rest -= count;
+    }
+    return 0;
+}
+
+u32 plain_look(const u8 *image, usize image_len, usize *vertices, usize *edges) {
+    *vertices = *edges = 0;
+    usize n, m;
+    u32 number = check_header(image, image_len, &n, &m);
+    if (number != 0) return number;
+    number = check_in_place(image, n, m);
+    if (number != 0) return number;
+    *vertices = n;
+    *edges = m;
+    return 0;
+}
+
+u32 plain_load(const u8 *image, usize image_len, u32 *starts, usize starts_len, u32 *targets, usize targets_len,
+               u64 *counts, usize counts_len, usize *vertices, usize *edges) {
+    u32 number = plain_look(image, image_len, vertices, edges);
+    if (number != 0) return number;
+    usize n = *vertices, m = *edges;
+    if (starts_len < n + 1 || targets_len < m || counts_len < n) {
+        *vertices = *edges = 0;
+        return 8;
+    }
+    lay(image, n, m, starts, targets, counts);
+    return 0;
+}
+
+u32 plain_write(const u32 *starts, usize starts_len, const u32 *targets, usize m, const u64 *counts, usize counts_len,
+                u8 *image, usize image_len, usize *length) {
+    *length = 0;
+    u32 number = check(starts, starts_len, targets, m);
+    if (number != 0) return number;
+    usize n = starts_len - 1;
+    number = check_counts(counts, counts_len, n);
+    if (number != 0) return number;
+    if (image_len < image_length(n, m)) return 8;
+    image[0] = 'S';
+    image[1] = 'B';
+    image[2] = 'T';
+    image[3] = 1;
+    image[4] = 0;
+    put_word(image + 5, n);
+    put_word(image + 9, m);
+    u8 *at = image + HEADER;
+    for (usize v = 0; v < n + 1; v++) put_word(at + 4 * v, starts[v]);
+    at += 4 * (n + 1);
+    for (usize k = 0; k < m; k++) put_word(at + 4 * k, targets[k]);
+    at += 4 * m;
+    for (usize v = 0; v < n; v++) put_long_word(at + 8 * v, counts[v]);
+    *length = image_length(n, m);
     return 0;
 }
 

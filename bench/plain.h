@@ -2,11 +2,14 @@
 // stand here.
 #include "gohardim.h"
 
-typedef unsigned char u8;
+typedef gohardim_u8 u8;
 typedef gohardim_u32 u32;
 typedef gohardim_u64 u64;
 typedef gohardim_size usize;
 
+__typeof__(gohardim_look) plain_look;
+__typeof__(gohardim_load) plain_load;
+__typeof__(gohardim_write) plain_write;
 __typeof__(gohardim_list) plain_list;
 __typeof__(gohardim_judge) plain_judge;
 __typeof__(gohardim_fold) plain_fold;

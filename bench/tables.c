@@ -1,7 +1,9 @@
-// The tables that the library and the plain C are called on: some to be timed, and more to be compared.
+// The tables that the library and the plain C are called on: some to be timed, and more to be compared; and the image
+// of each.
 #include "bench.h"
 
 struct table table;
+u8 image[sizeof image];
 struct lent lent;
 struct asked asked;
 
@@ -44,7 +46,7 @@ static void make(const char *name, usize n, u32 counts_below) {
         table.starts[v + 1] = table.m + 2;
         table.counts[v] = ~0ul;
     }
-    lent = (struct lent){n + 1, table.m, n, 2 * MOST + 2, MOST + 2, MOST_EDGES + 1, MOST + 1};
+    lent = (struct lent){n + 1, table.m, n, 0, 2 * MOST + 2, MOST + 2, MOST_EDGES + 1, MOST + 1, MOST_BYTES + 1};
     asked = (struct asked){0, n - 1, ALL};
 }
 
@@ -220,4 +222,24 @@ void make_drawn(u32 which, u32 most) {
         edge_to[k] = numbers[edge_to[k]];
     }
     make(name, n, 3);
+}
+
+// ---- the image of a table
+
+static u8 *put(u8 *to, u64 number, int bytes) { // and answers where the next one goes
+    for (int k = 0; k < bytes; k++) *to++ = number >> 8 * k;
+    return to;
+}
+
+void make_image(void) {
+    u8 *at = image;
+    for (const char *mark = "SBT"; *mark != 0; mark++) at = put(at, *mark, 1);
+    at = put(at, 1, 2);
+    at = put(at, table.n, 4);
+    at = put(at, table.m, 4);
+    for (usize v = 0; v <= table.n; v++) at = put(at, table.starts[v], 4);
+    for (usize k = 0; k < table.m; k++) at = put(at, table.targets[k], 4);
+    for (usize v = 0; v < table.n; v++) at = put(at, table.counts[v], 8);
+    memset(at, 255, BEHIND + 1);
+    lent.image = at - image;
 }

@@ -4,6 +4,7 @@
 use crate::batch;
 use crate::cases::{self, Asked, Case};
 use crate::count::Fault;
+use crate::in_a_row;
 use crate::operations::Operation;
 use crate::parts::Part;
 use crate::programs::{self, SHORT};
@@ -91,6 +92,13 @@ fn by_batch(cases: &[Case], case: &Case, operation: &Operation) -> Checks {
     let mut checks = of_answer(case, &answer);
     checks.push(("asked alone", batch::fault(operation, &answer, &alone)));
     checks.push(("asked among others", batch::fault(operation, &answer, &among)));
+    if let Operation::Load { room, stream } = operation {
+        let look = Operation::Look { stream: stream.clone() };
+        let printed = batch::ask(&[&look, operation]);
+        let [looked, loaded] = [0, 1].map(|at| batch::came(&printed[at]));
+        let fault = in_a_row::of_load(stream, *room, looked, loaded);
+        checks.push(("behind a look at the same image", fault));
+    }
     checks
 }
 

@@ -6,6 +6,7 @@ use crate::count::Fault;
 use crate::fold::{self, Folded};
 use crate::image::{self, Room};
 use crate::operations::Operation::{self, *};
+use crate::operations::MOST_ROOM;
 use crate::parts::{difference_of_parts, Part};
 use crate::quick;
 use crate::superbubbles::{self, Way};
@@ -19,7 +20,7 @@ impl Operation {
     /// The table whose superbubbles matter, where any do.
     pub fn searched(&self) -> Option<&Table> {
         match self {
-            Show { .. } | Check { .. } | Write { .. } | Read { .. } => None,
+            Show { .. } | Check { .. } | Write { .. } | Look { .. } | Load { .. } => None,
             List { table, .. } | Judge { table, .. } | Fold { table, .. } => Some(table),
         }
     }
@@ -32,7 +33,7 @@ impl Operation {
     pub fn answer_by(&self, way: &Way) -> Vec<u8> {
         let number = number_given(&self.faults());
         match self {
-            Show { stream } => image::text(stream).into_bytes(),
+            Show { stream } => image::show_text(stream).into_bytes(),
             Check { table } => {
                 let without = number_given(&table.faults_without_counts());
                 format!("check {without} counted {number}\n").into_bytes()
@@ -46,11 +47,12 @@ impl Operation {
                 answer.push(b'\n');
                 answer
             }
-            Read { room, stream } => {
-                let read = (number == 0).then(|| image::table_in(stream)).unwrap_or_default();
-                let (n, m) = (read.counts.len(), read.targets.len());
-                with_slices(format!("read {number} {n} {m}\n"), read, *room)
+            Look { .. } if number != 0 => format!("look {number} 0 0\n").into_bytes(),
+            Look { stream } => {
+                let (n, m) = image::table_in(stream).sizes();
+                load(&format!("look 0 {n} {m} "), stream, Room::of(n, m))
             }
+            Load { room, stream } => load("", stream, *room),
             List { room, table } => {
                 let found = if number == 0 { (way.superbubbles)(table) } else { Vec::new() };
                 let pairs: Vec<_> = found.iter().map(|superbubble| superbubble.pair()).collect();
@@ -75,33 +77,39 @@ impl Operation {
         let end = match self {
             Show { .. } => (0..lines_after(&output[..first]))
                 .try_fold(first, |end, _| end_of_line(output, end))?,
-            Check { .. } | Judge { .. } => first,
-            Write { .. } | Read { .. } | List { .. } | Fold { .. } => {
-                let bytes = |slice: &LentSlice| slice.length * slice.width;
-                first + self.lent().iter().map(bytes).sum::<usize>() + 1
+            _ => {
+                let lent = self.lent(output);
+                let bytes = lent.iter().map(|slice| slice.length * slice.width).sum::<usize>();
+                // behind slices stands one more line feed
+                first + bytes + usize::from(!lent.is_empty())
             }
         };
         (end <= output.len()).then_some(end)
     }
 
-    /// The slices behind the first line of the answer.
-    fn lent(&self) -> Vec<LentSlice> {
+    /// The slices behind the first line of an answer; those behind that of a look are as long as it
+    /// says.
+    fn lent(&self, answer: &[u8]) -> Vec<LentSlice> {
         let lent = |name, length, width| LentSlice { name, length, width };
+        let three = |room: Room| {
+            vec![
+                lent("starts", room.starts, 4),
+                lent("targets", room.targets, 4),
+                lent("counts", room.counts, 8),
+            ]
+        };
         match self {
             Show { .. } | Check { .. } | Judge { .. } => Vec::new(),
             Write { room, .. } => vec![lent("image", *room, 1)],
             List { room, .. } => vec![lent("out", *room, 4)],
-            Read { room, .. } | Fold { room, .. } => vec![
-                lent("starts", room.starts, 4),
-                lent("targets", room.targets, 4),
-                lent("counts", room.counts, 8),
-            ],
+            Look { .. } => room_looked_up(answer).map_or(Vec::new(), three),
+            Load { room, .. } | Fold { room, .. } => three(*room),
         }
     }
 
     /// An answer taken apart: the text, and then the slices, as far as it reaches.
     pub fn parts(&self, answer: &[u8]) -> Vec<Part> {
-        let lent = self.lent();
+        let lent = self.lent(answer);
         if lent.is_empty() {
             return vec![Part::text("", answer)];
         }
@@ -140,6 +148,14 @@ fn little_endian(bytes: &[u8]) -> u64 {
 
 // ---- the answers by what they say
 
+/// The answer to a question to load, behind the beginning of its line.
+fn load(beginning: &str, stream: &[u8], room: Room) -> Vec<u8> {
+    let number = number_given(&image::faults_of_load(stream, room));
+    let table = if number == 0 { image::table_in(stream) } else { Table::default() };
+    let (n, m) = table.sizes();
+    with_slices(format!("{beginning}load {number} {n} {m}\n"), table, room)
+}
+
 /// The answer to a question to list.
 pub fn list(number: u32, pairs: &[(usize, usize)], room: usize) -> Vec<u8> {
     let mut answer = format!("list {number} {}\n", pairs.len()).into_bytes();
@@ -172,13 +188,28 @@ fn with_slices(first_line: String, mut table: Table, room: Room) -> Vec<u8> {
     answer
 }
 
+// ---- what an answer says
+
+/// The numbers in the first line of an answer.
+pub fn numbers_in_first_line(answer: &[u8]) -> Vec<usize> {
+    let line = &answer[..end_of_line(answer, 0).unwrap_or(answer.len())];
+    String::from_utf8_lossy(line).split_whitespace().flat_map(|word| word.parse()).collect()
+}
+
+/// The room into which a look that accepts has its image loaded, by its answer; none where it refuses,
+/// or where the answer says what cannot be.
+fn room_looked_up(answer: &[u8]) -> Option<Room> {
+    let [0, n, m, _, _, _] = numbers_in_first_line(answer)[..] else {
+        return None;
+    };
+    Some(Room::of(n, m)).filter(|room| room.is_within(MOST_ROOM))
+}
+
 /// What an accepted fold of n vertices gave, by its answer; none where it was refused, or where the
 /// answer says what cannot be.
 pub fn folded_in(answer: &[u8], room: Room, n: usize) -> Option<Folded> {
     let first = end_of_line(answer, 0)?;
-    let line = String::from_utf8_lossy(&answer[..first]);
-    let words: Vec<usize> = line.split_whitespace().flat_map(|word| word.parse()).collect();
-    let [0, folded, left, m] = words[..] else {
+    let [0, folded, left, m] = numbers_in_first_line(answer)[..] else {
         return None;
     };
     if room.is_below(n, m) {

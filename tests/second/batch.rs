@@ -50,6 +50,11 @@ pub fn fault(operation: &Operation, answer: &[u8], printed: &Printed) -> Fault {
     }
 }
 
+/// What was printed for a question, or nothing.
+pub fn came(printed: &Printed) -> &[u8] {
+    printed.as_deref().unwrap_or(&[])
+}
+
 /// Folds tables, whatever comes of them.
 pub fn fold(questions: &[(&Table, u32)]) -> Vec<Result<Folded, String>> {
     let room = |table: &Table| Room::of(table.counts.len(), table.targets.len());

@@ -1,12 +1,12 @@
 //! The cases: what is asked, in a fixed order with fixed numbers. A case depends on the seed and on
-//! its own number alone.
+//! its own number alone; the loads behind a look, which are of the same image, on that of the look.
 
 use crate::count::{Count, Fault};
 use crate::damages::{self, OF_IMAGE, OF_TABLE};
 use crate::graphs::{self, TWELVE};
-use crate::image::{self, Room};
+use crate::image::{self, Kind, Room, ROOMS};
 use crate::limits;
-use crate::operations::{Operation, LONGEST_IMAGE};
+use crate::operations::{exact_room, Operation, LONGEST_IMAGE};
 use crate::parallel;
 use crate::parts::Part;
 use crate::random::Random;
@@ -178,10 +178,20 @@ impl Cases {
         self.add(name, |random| write(make(random), random));
     }
 
-    /// A stream, to be read and to be shown.
+    /// A stream, to be looked at and to be loaded; and one to be shown.
     fn stream(&mut self, name: &str, make: impl Fn(&mut Random) -> Vec<u8>) {
-        self.add(name, |random| read(make(random), random));
+        let stream = make(&mut self.next_random());
+        self.add(name, |_| Operation::Look { stream: stream.clone() });
+        self.loads(name, &stream);
         self.add(name, |random| Operation::Show { stream: make(random) });
+    }
+
+    /// A stream that was looked at, to be loaded with room of each kind.
+    fn loads(&mut self, name: &str, stream: &[u8]) {
+        for (kind, room) in rooms(stream, &mut self.next_random()) {
+            let stream = stream.to_vec();
+            self.add(format!("{name}, {kind}"), |_| Operation::Load { room, stream });
+        }
     }
 
     /// A table as a table and as an image.
@@ -195,8 +205,15 @@ impl Cases {
     /// The limits, and what the rules work out themselves.
     fn by_hand(&mut self) {
         for (first_line, name, operation) in limits::all(self.seed) {
+            let looked_at = match &operation {
+                Operation::Look { stream } => Some(stream.clone()),
+                _ => None,
+            };
             self.add(name, |_| operation);
             self.begins(format!("{first_line}\n"));
+            if let Some(stream) = looked_at {
+                self.loads(name, &stream);
+            }
         }
         for worked in worked::all() {
             self.add(worked.name, |_| worked.operation);
@@ -283,16 +300,22 @@ fn write(table: Table, random: &mut Random) -> Operation {
     Operation::Write { room: room.min(LONGEST_IMAGE), table }
 }
 
-/// Reading with room enough in most cases, by what the header of the stream says; where there is no
-/// header, or it says far too much, with little room.
-fn read(stream: Vec<u8>, random: &mut Random) -> Operation {
-    let said = |place| {
-        let bytes = stream.get(place..place + 4)?.try_into().ok()?;
-        Some(u32::from_le_bytes(bytes) as usize)
-    };
-    let n = said(5).filter(|&n| n < 4_000).unwrap_or(5);
-    let m = said(9).filter(|&m| m < 9_000).unwrap_or(5);
-    Operation::Read { room: room(random, n, m), stream }
+/// The rooms with which an image is loaded, each once: those of each kind, and a drawn one, by what the
+/// header says; where there is no header, or it says far too much, none and a little.
+fn rooms(stream: &[u8], random: &mut Random) -> Vec<(&'static str, Room)> {
+    let exact = exact_room(stream);
+    let of_kind = |(kind, of): Kind| Some((kind, of(exact)?));
+    let said = image::room_for(stream);
+    let n = said.map(|said| said.counts).filter(|&n| n < 4_000).unwrap_or(5);
+    let m = said.map(|said| said.targets).filter(|&m| m < 9_000).unwrap_or(5);
+    let drawn = ("any room", room(random, n, m));
+    let mut rooms: Vec<(&str, Room)> = Vec::new();
+    for (kind, room) in ROOMS.into_iter().filter_map(of_kind).chain([drawn]) {
+        if rooms.iter().all(|&(_, other)| other != room) {
+            rooms.push((kind, room));
+        }
+    }
+    rooms
 }
 
 /// Room for a table of n vertices and m edges: enough in most cases, or too little of one kind, or
@@ -303,7 +326,7 @@ pub fn room(random: &mut Random, n: usize, m: usize) -> Room {
         0 => room.starts -= 1,
         1 => room.targets = m.saturating_sub(1),
         2 => room.counts = n.saturating_sub(1),
-        3 => room = Room { starts: 0, targets: 0, counts: 0 },
+        3 => room = Room::NONE,
         4 | 5 => {
             room.starts += random.between(0, 9);
             room.targets += random.between(0, 9);

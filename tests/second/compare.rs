@@ -6,6 +6,7 @@ use crate::cases::{self, Asked, Case};
 use crate::count::Count;
 use crate::examples;
 use crate::faults;
+use crate::in_a_row;
 use crate::launcher;
 use crate::operations::Operation;
 use crate::parallel;
@@ -60,6 +61,8 @@ fn ask_batch(cases: &[Case], answers: &[Vec<u8>], count: &mut Count) {
         (case, batch::fault(operation, answer, printed))
     });
     cases::judge(checks.collect(), count);
+    let came = asked.iter().zip(&printed).map(|(&(case, _, _), came)| (case, batch::came(came)));
+    cases::judge(in_a_row::checks(came), count);
     cases::judge(cases::in_turn(cases, &batch::fold), count);
 }
 

@@ -1,11 +1,14 @@
-//! What the cases must reach: each operation gives each of its numbers; each two numbers that can hold
-//! together do so in some case, for otherwise their order would not be tried; and the answers about
-//! superbubbles are not the easy ones alone.
+//! What the cases must reach: each operation gives each of its numbers, and no other; each two numbers
+//! that can hold together do so in some case, for otherwise their order would not be tried; images are
+//! loaded with room of each kind; and the answers about superbubbles are not the easy ones alone.
 
+use crate::answers::numbers_in_first_line;
 use crate::cases::Case;
 use crate::count::Fault;
-use crate::operations::OPERATIONS;
+use crate::image::{self, Room, ROOMS};
+use crate::operations::{exact_room, Operation, OPERATIONS};
 use crate::table::number_given;
+use std::collections::HashSet;
 
 const FEWEST: usize = 5;
 
@@ -13,6 +16,7 @@ const FEWEST: usize = 5;
 /// reach: for each check its name, and what is wrong.
 pub fn check(cases: &[Case], answers: &[Vec<u8>]) -> Vec<(String, Fault)> {
     let mut checks = numbers(cases);
+    checks.extend(rooms(cases));
     let lines: Vec<Vec<usize>> =
         answers.iter().map(|answer| numbers_in_first_line(answer)).collect();
     for (operation, what, fewest, holds) in REACHED {
@@ -20,16 +24,21 @@ pub fn check(cases: &[Case], answers: &[Vec<u8>]) -> Vec<(String, Fault)> {
         let reached = |(case, line): &(&Case, &Vec<usize>)| of_operation(case) && holds(line);
         let cases = cases.iter().zip(&lines).filter(reached).count();
         println!("{operation}: {cases} {what}");
-        let fault = (cases < fewest).then(|| format!("only {cases} cases, {fewest} are due"));
-        checks.push((format!("{operation}: {what}"), fault));
+        checks.push((format!("{operation}: {what}"), too_few(cases, fewest)));
     }
     checks
+}
+
+fn too_few(cases: usize, fewest: usize) -> Fault {
+    (cases < fewest).then(|| format!("only {cases} cases, {fewest} are due"))
 }
 
 /// By the numbers in the first line of an answer: what some cases must reach, and how many at least.
 type Reached = (&'static str, &'static str, usize, fn(&[usize]) -> bool);
 
-const REACHED: [Reached; 12] = [
+const REACHED: [Reached; 14] = [
+    ("look", "that accept, and whose load does", 200, |line| line[0] == 0 && line[3] == 0),
+    ("look", "that accept 1,000 vertices or more", 2, |line| line[1] >= 1_000),
     ("list", "with none", 1_000, |line| line == [0, 0]),
     ("list", "with one superbubble or more", 5_000, |line| line[1] >= 1),
     ("list", "with four or more", 1_000, |line| line[1] >= 4),
@@ -44,11 +53,6 @@ const REACHED: [Reached; 12] = [
     ("fold", "that find nothing to fold", 500, |line| line[..3] == [0, 0, 0]),
 ];
 
-fn numbers_in_first_line(answer: &[u8]) -> Vec<usize> {
-    let line = answer.split(|&byte| byte == b'\n').next().unwrap_or(&[]);
-    String::from_utf8_lossy(line).split(' ').flat_map(|word| word.parse()).collect()
-}
-
 fn numbers(cases: &[Case]) -> Vec<(String, Fault)> {
     let mut checks = Vec::new();
     for (operation, numbers) in OPERATIONS {
@@ -57,12 +61,16 @@ fn numbers(cases: &[Case]) -> Vec<(String, Fault)> {
         let faults: Vec<Vec<u32>> = of_operation.map(|asked| asked.faults()).collect();
         let giving = |number| faults.iter().filter(|held| number_given(held) == number).count();
 
-        let mut line = format!("{operation}: {} accepted", giving(0));
+        let accepted = giving(0);
+        let mut line = format!("{operation}: {accepted} accepted");
+        checks.push((format!("{operation} accepts"), too_few(accepted, FEWEST)));
+        let other = faults.iter().flatten().find(|number| !numbers.contains(number));
+        let fault = other.map(|other| format!("{other} applies in some case"));
+        checks.push((format!("{operation} gives no other number"), fault));
         for (place, &first) in numbers.iter().enumerate() {
             let given = giving(first);
             line += &format!(", {given} refused {first}");
-            let fault = (given < FEWEST).then(|| format!("only {given} cases give it"));
-            checks.push((format!("{operation} refuses {first}"), fault));
+            checks.push((format!("{operation} refuses {first}"), too_few(given, FEWEST)));
 
             for &second in numbers[place + 1..].iter().filter(|&&second| together(first, second)) {
                 let both = |held: &Vec<u32>| held.contains(&first) && held.contains(&second);
@@ -79,4 +87,72 @@ fn numbers(cases: &[Case]) -> Vec<(String, Fault)> {
 /// together.
 fn together(first: u32, second: u32) -> bool {
     ![5, 9].contains(&second) || ![1, 2, 3].contains(&first)
+}
+
+/// A load: its image, the number that a look at this gives, its room, and the room that the header says.
+struct Load<'a> {
+    stream: &'a [u8],
+    number: u32,
+    room: Room,
+    exact: Option<Room>,
+}
+
+/// Each image that is looked at is loaded with room of each kind, where there is such.
+fn rooms(cases: &[Case]) -> Vec<(String, Fault)> {
+    let (mut looks, mut loads) = (Vec::new(), Vec::new());
+    for operation in cases.iter().filter_map(Case::operation) {
+        match operation {
+            Operation::Look { stream } => looks.push(&stream[..]),
+            Operation::Load { room, stream } => {
+                let number = number_given(&image::faults(stream));
+                loads.push(Load { stream, number, room: *room, exact: exact_room(stream) });
+            }
+            _ => {}
+        }
+    }
+    let loaded: HashSet<(&[u8], Room)> =
+        loads.iter().map(|load| (load.stream, load.room)).collect();
+    let mut checks = rooms_and_numbers(&loads);
+    checks.extend(slices_alone(&loads));
+    for (kind, of) in ROOMS {
+        let is_left = |stream: &[u8]| {
+            of(exact_room(stream)).is_some_and(|room| !loaded.contains(&(stream, room)))
+        };
+        let left = looks.iter().filter(|stream| is_left(stream)).count();
+        let fault = (left > 0).then(|| format!("{left} are not"));
+        checks.push((format!("each image that is looked at is loaded, {kind}"), fault));
+    }
+    checks
+}
+
+/// Images of each number that a look gives are loaded with room of each kind.
+fn rooms_and_numbers(loads: &[Load]) -> Vec<(String, Fault)> {
+    let numbers = OPERATIONS.iter().find(|(name, _)| *name == "look").map_or(&[][..], |it| it.1);
+    let mut checks = Vec::new();
+    for (kind, of) in ROOMS {
+        let mut line = format!("load, {kind}:");
+        for &number in [0].iter().chain(numbers) {
+            let is_such = |load: &&Load| load.number == number && of(load.exact) == Some(load.room);
+            let tried = loads.iter().filter(is_such).count();
+            line += &format!(" {tried} of {number}");
+            let title = format!("load of an image that gives {number}, {kind}");
+            checks.push((title, too_few(tried, FEWEST)));
+        }
+        println!("{line}");
+    }
+    checks
+}
+
+/// Each slice alone is too short for images that are accepted.
+fn slices_alone(loads: &[Load]) -> Vec<(String, Fault)> {
+    let mut checks = Vec::new();
+    for (slice, name) in ["starts", "targets", "counts"].iter().enumerate() {
+        let alone = [0, 1, 2].map(|other| other == slice);
+        let is_alone = |load: &Load| Some(load.room.is_short_of(load.exact?) == alone);
+        let is_such = |load: &&Load| load.number == 0 && is_alone(load) == Some(true);
+        let tried = loads.iter().filter(is_such).count();
+        println!("load: {tried} refused 8 for {name} alone");
+        checks.push((format!("load refuses 8 for {name} alone"), too_few(tried, FEWEST)));
+    }
+    checks
 }

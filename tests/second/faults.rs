@@ -25,6 +25,7 @@ mod traced;
 
 use crate::count::Count;
 use crate::programs::words_of;
+use crate::runs::PROGRAMS;
 use checks::{check, demand, judge_all, judge_in_turn, Check, Judged};
 use folders::FOLDERS;
 use scene::{Rehearsed, Scene};
@@ -104,16 +105,16 @@ fn unhindered<'a>(fold: &'a Rehearsed<'a>) -> Vec<Check<'a>> {
 }
 
 fn of_readers(count: &mut Count) -> Judged {
-    let [show, list, judge] = ["show", "list", "judge"].map(words_of);
-    let [show, list, judge] = [&show?, &list?, &judge?];
-    let readers = readers::all(show, list, judge);
+    let [look, show, list, judge] = ["look", "show", "list", "judge"].map(words_of);
+    let programs = [&look?[..], &show?, &list?, &judge?];
+    let readers = readers::all(programs);
     let unhindered = readers.iter().flat_map(|reader| reader.unhindered()).collect();
-    judge_all("runs of show, list and judge that nothing befalls", unhindered, count);
+    judge_all("runs of look, show, list and judge that nothing befalls", unhindered, count);
     let mut failures = Vec::new();
     for reader in &readers {
         failures.extend(reader.failures()?);
     }
-    judge_all("runs of show, list and judge of which a call fails", failures, count);
+    judge_all("runs of look, show, list and judge of which a call fails", failures, count);
     let in_pieces = readers.iter().flat_map(|reader| reader.in_pieces()).collect();
     judge_all("runs whose reads and writes are cut short", in_pieces, count);
     let without = readers.iter().flat_map(|reader| reader.without_streams()).collect();
@@ -122,8 +123,8 @@ fn of_readers(count: &mut Count) -> Judged {
 }
 
 fn of_each(count: &mut Count) -> Judged {
-    let [show, list, judge, fold] = ["show", "list", "judge", "fold"].map(words_of);
-    let programs = [&show?[..], &list?, &judge?, &fold?];
+    let [look, show, list, judge, fold] = PROGRAMS.map(words_of);
+    let programs = [&look?[..], &show?, &list?, &judge?, &fold?];
     judge_all("runs with little stack", stack::all(programs), count);
     if !CAN_TRACE {
         judge_all("runs whose calls the emulator tells", emulated::all(programs), count);

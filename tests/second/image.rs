@@ -1,5 +1,5 @@
-//! The house image of the rules (docs/RULES.md, Image): its layout, the numbers that reading it earns,
-//! and the text that the program `show` prints for it.
+//! The house image of the rules (docs/RULES.md, Image): its layout, the numbers that a look at it earns,
+//! the room that a load of it needs, and what the programs `look` and `show` print for it.
 
 use crate::parts::Part;
 use crate::table::{number_given, Table, MOST_EDGES, MOST_VERTICES};
@@ -7,8 +7,8 @@ use crate::table::{number_given, Table, MOST_EDGES, MOST_VERTICES};
 pub const HEADER: usize = 13;
 pub const LARGEST: usize = 57_361;
 
-/// How long the output slices are that reading and folding are lent.
-#[derive(Clone, Copy)]
+/// How long the output slices are that loading and folding are lent.
+#[derive(Clone, Copy, PartialEq, Eq, Hash)]
 pub struct Room {
     pub starts: usize,
     pub targets: usize,
@@ -46,19 +46,25 @@ pub fn append_numbers(bytes: &mut Vec<u8>, numbers: &[u32]) {
     }
 }
 
-/// What the header of a stream of at least 13 bytes says.
+/// What a header says.
 struct Header {
     version: u16,
-    n: u32,
-    m: u32,
+    n: usize,
+    m: usize,
 }
 
-fn header(stream: &[u8]) -> Header {
-    Header {
+/// The header of a stream, where it has one.
+fn header(stream: &[u8]) -> Option<Header> {
+    (stream.len() >= HEADER).then(|| Header {
         version: u16::from_le_bytes([stream[3], stream[4]]),
-        n: u32_at(stream, 5),
-        m: u32_at(stream, 9),
-    }
+        n: u32_at(stream, 5) as usize,
+        m: u32_at(stream, 9) as usize,
+    })
+}
+
+/// The room for the table of a stream, by its header, where it has one.
+pub fn room_for(stream: &[u8]) -> Option<Room> {
+    header(stream).map(|Header { n, m, .. }| Room::of(n, m))
 }
 
 fn u32_at(bytes: &[u8], place: usize) -> u32 {
@@ -71,9 +77,7 @@ fn u64_at(bytes: &[u8], place: usize) -> u64 {
 
 /// The table in a stream that is at least as long as its header says.
 pub fn table_in(stream: &[u8]) -> Table {
-    let Header { n, m, .. } = header(stream);
-    let (n, m) = (n as usize, m as usize);
-    slices_in(&stream[HEADER..], Room::of(n, m))
+    slices_in(&stream[HEADER..], room_for(stream).expect("the stream has a header"))
 }
 
 /// Slices of these lengths, one after the other, at the front of some bytes.
@@ -87,13 +91,12 @@ pub fn slices_in(bytes: &[u8], room: Room) -> Table {
     }
 }
 
-/// The numbers whose condition holds when this stream is read, in the order in which they are given:
-/// 10, 11, 1, 2, 12, 3, 4, 5, 7, 8. A fault of the table counts where all of the table is there.
-pub fn faults_of_reading(stream: &[u8], room: Option<Room>) -> Vec<u32> {
-    if stream.len() < HEADER {
+/// The numbers whose condition holds of this stream, in the order in which they are given: 10, 11, 1,
+/// 2, 12, 3, 4, 5, 7. A fault of the table counts where all of the table is there.
+pub fn faults(stream: &[u8]) -> Vec<u32> {
+    let Some(Header { version, n, m }) = header(stream) else {
         return vec![10];
-    }
-    let Header { version, n, m } = header(stream);
+    };
     let due = length(n as u64, m as u64);
     let mut faults = Vec::new();
     if &stream[..3] != b"SBT" {
@@ -102,10 +105,10 @@ pub fn faults_of_reading(stream: &[u8], room: Option<Room>) -> Vec<u32> {
     if version != 1 {
         faults.push(11);
     }
-    if n as usize > MOST_VERTICES {
+    if n > MOST_VERTICES {
         faults.push(1);
     }
-    if m as usize > MOST_EDGES {
+    if m > MOST_EDGES {
         faults.push(2);
     }
     if stream.len() as u64 != due {
@@ -115,13 +118,42 @@ pub fn faults_of_reading(stream: &[u8], room: Option<Room>) -> Vec<u32> {
         let table = table_in(stream).faults();
         faults.extend(table.iter().filter(|&&number| [3, 4, 5, 7].contains(&number)));
     }
-    if room.is_some_and(|room| room.is_below(n as usize, m as usize)) {
+    faults
+}
+
+/// The same of a load into slices of this room: behind all others comes 8.
+pub fn faults_of_load(stream: &[u8], room: Room) -> Vec<u32> {
+    let mut faults = faults(stream);
+    if room_for(stream).is_some_and(|due| !due.is_within(room)) {
         faults.push(8);
     }
     faults
 }
 
+/// The table of an image that is accepted, or the number that it is refused by.
+pub fn table_or_number(stream: &[u8]) -> Result<Table, u32> {
+    match number_given(&faults(stream)) {
+        0 => Ok(table_in(stream)),
+        number => Err(number),
+    }
+}
+
+/// A kind of room for a load: its name, and the room by the one that the header says, where there is
+/// one that can be lent.
+pub type Kind = (&'static str, fn(Option<Room>) -> Option<Room>);
+
+/// The kinds of room with which each image is loaded.
+pub const ROOMS: [Kind; 5] = [
+    ("exact room", |exact| exact),
+    ("a start less", |exact| exact.and_then(|it| it.less([1, 0, 0]))),
+    ("a target less", |exact| exact.and_then(|it| it.less([0, 1, 0]))),
+    ("a count less", |exact| exact.and_then(|it| it.less([0, 0, 1]))),
+    ("no room", |_| Some(Room::NONE)),
+];
+
 impl Room {
+    pub const NONE: Room = Room { starts: 0, targets: 0, counts: 0 };
+
     /// What a table of n vertices and m edges needs.
     pub fn of(n: usize, m: usize) -> Room {
         Room { starts: n + 1, targets: m, counts: n }
@@ -138,32 +170,62 @@ impl Room {
     }
 
     pub fn is_within(self, other: Room) -> bool {
-        self.starts <= other.starts && self.targets <= other.targets && self.counts <= other.counts
+        !other.is_short_of(self).contains(&true)
+    }
+
+    /// For each of the three slices whether it is shorter than this.
+    pub fn is_short_of(self, due: Room) -> [bool; 3] {
+        [self.starts < due.starts, self.targets < due.targets, self.counts < due.counts]
+    }
+
+    /// So many numbers less of each slice, where it has as many.
+    fn less(self, [starts, targets, counts]: [usize; 3]) -> Option<Room> {
+        Some(Room {
+            starts: self.starts.checked_sub(starts)?,
+            targets: self.targets.checked_sub(targets)?,
+            counts: self.counts.checked_sub(counts)?,
+        })
     }
 }
 
 /// A stream taken apart: what `show` prints for it, and its bytes.
 pub fn parts(name: &str, stream: &[u8]) -> Vec<Part> {
     vec![
-        Part::text(&format!("{name} by show"), text(stream).as_bytes()),
+        Part::text(&format!("{name} by show"), show_text(stream).as_bytes()),
         Part::slice(&format!("bytes of {name}"), stream),
     ]
 }
 
+/// What a program prints for a stream: its text of the table, or the line of a refusal.
+pub fn text(stream: &[u8], of_table: impl Fn(&Table) -> String) -> String {
+    match table_or_number(stream) {
+        Ok(table) => of_table(&table),
+        Err(number) => format!("refused {number}\n"),
+    }
+}
+
+/// What `look` prints for a stream.
+pub fn look_text(stream: &[u8]) -> String {
+    text(stream, sizes_line)
+}
+
+/// The line with the sizes of a table.
+fn sizes_line(table: &Table) -> String {
+    let (n, m) = table.sizes();
+    format!("table {n} {m}\n")
+}
+
 /// What `show` prints for a stream.
-pub fn text(stream: &[u8]) -> String {
-    let number = number_given(&faults_of_reading(stream, None));
-    if number != 0 {
-        return format!("refused {number}\n");
-    }
-    let table = table_in(stream);
-    let mut text = format!("table {} {}\n", table.counts.len(), table.targets.len());
-    for (vertex, count) in table.counts.iter().enumerate() {
-        text += &format!("{vertex} {count}");
-        for successor in table.row(vertex) {
-            text += &format!(" {successor}");
+pub fn show_text(stream: &[u8]) -> String {
+    text(stream, |table| {
+        let mut text = sizes_line(table);
+        for (vertex, count) in table.counts.iter().enumerate() {
+            text += &format!("{vertex} {count}");
+            for successor in table.row(vertex) {
+                text += &format!(" {successor}");
+            }
+            text += "\n";
         }
-        text += "\n";
-    }
-    text
+        text
+    })
 }

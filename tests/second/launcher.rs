@@ -65,20 +65,29 @@ impl Launcher<'_> {
         for name in &names {
             self.judge(format!("where {name}"), where_is(caller, name));
         }
-        self.judge("the words of where, run alone", runs_alone(caller));
         self.statuses(caller);
         self.judge("all that batch prints", hands_on_batch(caller));
         self.help(caller, &names);
-        self.judge("variables of the caller, and a link", with_variables(caller));
+        for program in ["look", "show"] {
+            self.program(caller, program);
+        }
+        self.judge("a full disk", full_disk(caller));
+    }
+
+    /// With a program whose answer to J begins `table 7 8`.
+    fn program(&mut self, caller: &Caller, program: &str) {
+        self.judge(format!("{program}, the words of where run alone"), runs_alone(caller, program));
+        let title = format!("{program}, variables of the caller, and a link");
+        self.judge(title, with_variables(caller, program));
         for (name, signal) in SIGNALS {
             if signal != KILL || self.kills {
-                self.judge(format!("{name} ends it and show"), ends(caller, "show", signal));
+                self.judge(format!("{name} ends it and {program}"), ends(caller, program, signal));
             }
         }
         for streams in [&[][..], &[0], &[1], &[2], &[0, 1], &[0, 2], &[1, 2], &[0, 1, 2]] {
-            self.judge(format!("closed streams {streams:?}"), closed_streams(caller, streams));
+            let title = format!("{program}, closed streams {streams:?}");
+            self.judge(title, closed_streams(caller, program, streams));
         }
-        self.judge("a full disk", full_disk(caller));
     }
 
     fn statuses(&mut self, caller: &Caller) {
@@ -88,16 +97,19 @@ impl Launcher<'_> {
         }
         let (j, none) = (&example("J")[..], &[][..]);
         for (line, input, status, begin) in [
+            ("look", j, 0, "table 7 8\n"),
             ("show", j, 0, "table 7 8\n"),
             ("list", j, 0, "superbubbles 2\n"),
             ("judge 0 6", j, 0, "superbubble 7\n"),
             ("judge 6 0", j, 0, "no\n"),
             ("fold 1 J out", none, 0, "folded 1 left 0 edges 2\n"),
+            ("look", none, 1, "refused 10\n"),
             ("show", none, 1, "refused 10\n"),
             ("list", none, 1, "refused 10\n"),
             ("judge 0 6", none, 1, "refused 10\n"),
             ("judge 0 7", j, 1, "refused 13\n"),
             ("fold 1 E out", none, 1, "refused 9\n"),
+            ("look J", j, 2, "usage: look "),
             ("show J", j, 2, "usage: show "),
             ("list J", j, 2, "usage: list "),
             ("judge 0", j, 2, "usage: judge "),
@@ -207,14 +219,14 @@ fn where_is(caller: &Caller, name: &str) -> Tried<()> {
     caller.run(&["where", name], b"")?.must_say_nothing()
 }
 
-fn runs_alone(caller: &Caller) -> Tried<()> {
-    let words = caller.words_of("show", SHORT)?;
+fn runs_alone(caller: &Caller, program: &str) -> Tried<()> {
+    let words = caller.words_of(program, SHORT)?;
     let mut alone = Command::new(&words[0]);
     alone.args(&words[1..]).stdin(Stdio::piped()).stdout(Stdio::piped());
     let input = fs::read("examples/J.sbt")?;
     let ended = finish(alone.spawn()?, &input, SHORT)?;
     ended.must_be(0)?;
-    ended.must_print(&caller.run(&["show"], &input)?.output)
+    ended.must_print(&caller.run(&[program], &input)?.output)
 }
 
 /// Beside an answer nothing is said, and without one there is a message; `batch` has nothing to say
@@ -284,11 +296,11 @@ fn refuses(caller: &Caller, words: &[&str]) -> Tried<()> {
 }
 
 /// Variables that shells and tools look at, and those that the script has itself.
-fn with_variables(caller: &Caller) -> Tried<()> {
-    let link = caller.folder.join("a link");
+fn with_variables(caller: &Caller, program: &str) -> Tried<()> {
+    let link = caller.folder.join(format!("a link to {program}"));
     symlink(caller.root.join("gohardim"), &link)?;
     let mut command = Command::new(&link);
-    command.arg("show").current_dir("/");
+    command.arg(program).current_dir("/");
     command.stdin(Stdio::piped()).stdout(Stdio::piped()).stderr(Stdio::piped());
     for (names, value) in [
         ("CDPATH TMPDIR ENV LD_LIBRARY_PATH QEMU_LD_PREFIX", "/nowhere"),
@@ -302,7 +314,7 @@ fn with_variables(caller: &Caller) -> Tried<()> {
     let input = fs::read("examples/J.sbt")?;
     let ended = finish(command.spawn()?, &input, SHORT)?;
     ended.must_be(0)?;
-    ended.must_print(&caller.run(&["show"], &input)?.output)?;
+    ended.must_print(&caller.run(&[program], &input)?.output)?;
     ended.must_say_nothing()
 }
 
@@ -325,8 +337,8 @@ fn ends(caller: &Caller, program: &str, signal: i32) -> Tried<()> {
 }
 
 /// What can't be read or written is said, where it can be.
-fn closed_streams(caller: &Caller, streams: &[i32]) -> Tried<()> {
-    let mut command = caller.call(&["show"]);
+fn closed_streams(caller: &Caller, program: &str, streams: &[i32]) -> Tried<()> {
+    let mut command = caller.call(&[program]);
     command.stdin(File::open("examples/J.sbt")?);
     with_closed(&mut command, streams.to_vec());
     let ended = finish(command.spawn()?, b"", SHORT)?;

@@ -20,7 +20,8 @@ pub fn all(seed: u64) -> Vec<Limit> {
     all.push(("check 0 counted 0", "n = 2,048, m = 8,192", check_of(&largest)));
     all.push(("check 2 counted 2", "m = 8,193", check_of(&too_wide)));
     all.extend(writes(&largest, &too_wide));
-    all.extend(reads(&largest, &too_wide));
+    all.extend(looks(&largest, &too_wide));
+    all.extend(loads(&largest, &too_wide));
     all.extend(lists(&largest, &too_wide));
     all.extend(judges(&too_wide));
     all.extend(folds(&too_wide));
@@ -83,10 +84,51 @@ fn writes(largest: &Table, too_wide: &Table) -> Vec<Limit> {
     ]
 }
 
-fn reads(largest: &Table, too_wide: &Table) -> Vec<Limit> {
-    let read = |starts, targets, counts, stream: &[u8]| {
+fn looks(largest: &Table, too_wide: &Table) -> Vec<Limit> {
+    let look = |stream: &[u8]| Operation::Look { stream: stream.into() };
+    let of = |table: &Table| look(&image::of_table(table));
+    let (a, j) = (lettered("A").table(), graphs::j());
+    let of_j = image::of_table(&j);
+    let changed = |place: usize, byte: u8| {
+        let mut image = of_j.clone();
+        image[place] = byte;
+        look(&image)
+    };
+    let counted = |counts: &[u64]| of(&Table { counts: counts.to_vec(), ..j.clone() });
+    let too_long = Table { starts: vec![0; 2_050], targets: vec![], counts: vec![0; 2_049] };
+    let largest_image = image::of_table(largest);
+    vec![
+        ("look 0 7 8 load 0 7 8", "J", of(&j)),
+        ("look 0 0 0 load 0 0 0", "A", of(&a)),
+        ("look 0 2048 8192 load 0 2048 8192", "the largest image", look(&largest_image)),
+        ("look 12 0 0", "the largest image and a byte", look(&[&largest_image[..], &[0]].concat())),
+        ("look 10 0 0", "an empty stream", look(&[])),
+        ("look 10 0 0", "the first 12 bytes of J", look(&of_j[..12])),
+        ("look 12 0 0", "the first 13 bytes of J", look(&of_j[..13])),
+        ("look 12 0 0", "J, a byte cut off", look(&of_j[..132])),
+        ("look 12 0 0", "J and a byte", look(&[&of_j[..], &[0]].concat())),
+        ("look 10 0 0", "J, another mark", changed(2, b'X')),
+        ("look 11 0 0", "J, version 2", changed(3, 2)),
+        ("look 11 0 0", "J, version 257", changed(4, 1)),
+        ("look 1 0 0", "n = 2,049", of(&too_long)),
+        ("look 2 0 0", "m = 8,193", of(too_wide)),
+        ("look 3 0 0", "J, first start 1", changed(13, 1)),
+        ("look 4 0 0", "J, first target 7", changed(45, 7)),
+        ("look 5 0 0", "J, a row that falls", changed(45, 6)),
+        ("look 7 0 0", "J, count sum one too large", counted(&[LARGEST_SUM, 0, 0, 0, 1, 0, 0])),
+        (
+            "look 0 7 8 load 0 7 8",
+            "J, the largest count sum",
+            counted(&[0, 0, 0, LARGEST_SUM, 0, 0, 0]),
+        ),
+    ]
+}
+
+/// To be loaded are images that are looked at above.
+fn loads(largest: &Table, too_wide: &Table) -> Vec<Limit> {
+    let load = |starts, targets, counts, stream: &[u8]| {
         let room = Room { starts, targets, counts };
-        Operation::Read { room, stream: stream.into() }
+        Operation::Load { room, stream: stream.into() }
     };
     let a = image::of_table(&lettered("A").table());
     let j = image::of_table(&graphs::j());
@@ -94,19 +136,21 @@ fn reads(largest: &Table, too_wide: &Table) -> Vec<Limit> {
     let too_wide = image::of_table(too_wide);
     let one_more = [&largest[..], &[0]].concat();
     vec![
-        ("read 0 7 8", "J", read(8, 8, 7, &j)),
-        ("read 8 0 0", "J, starts too short", read(7, 8, 7, &j)),
-        ("read 8 0 0", "J, targets too short", read(8, 7, 7, &j)),
-        ("read 8 0 0", "J, counts too short", read(8, 8, 6, &j)),
-        ("read 0 7 8", "J, the most room", read(4_096, 16_384, 4_096, &j)),
-        ("read 12 0 0", "J, a byte cut off and no room", read(0, 0, 0, &j[..132])),
-        ("read 10 0 0", "an empty stream", read(8, 8, 7, &[])),
-        ("read 0 0 0", "A", read(1, 0, 0, &a)),
-        ("read 8 0 0", "A, no room", read(0, 0, 0, &a)),
-        ("read 0 2048 8192", "the largest image", read(2_049, 8_192, 2_048, &largest)),
-        ("read 8 0 0", "the largest image, no room", read(2_048, 8_192, 2_048, &largest)),
-        ("read 12 0 0", "the largest image and a byte", read(2_049, 8_192, 2_048, &one_more)),
-        ("read 2 0 0", "m = 8,193", read(4_096, 16_384, 4_096, &too_wide)),
+        ("load 0 7 8", "J", load(8, 8, 7, &j)),
+        ("load 8 0 0", "J, starts too short", load(7, 8, 7, &j)),
+        ("load 8 0 0", "J, targets too short", load(8, 7, 7, &j)),
+        ("load 8 0 0", "J, counts too short", load(8, 8, 6, &j)),
+        ("load 0 7 8", "J, the most room", load(4_096, 16_384, 4_096, &j)),
+        ("load 12 0 0", "J, a byte cut off and no room", load(0, 0, 0, &j[..132])),
+        ("load 10 0 0", "an empty stream", load(8, 8, 7, &[])),
+        ("load 0 0 0", "A", load(1, 0, 0, &a)),
+        ("load 8 0 0", "A, no room", load(0, 0, 0, &a)),
+        ("load 0 2048 8192", "the largest image", load(2_049, 8_192, 2_048, &largest)),
+        ("load 8 0 0", "the largest image, a start less", load(2_048, 8_192, 2_048, &largest)),
+        ("load 8 0 0", "the largest image, a target less", load(2_049, 8_191, 2_048, &largest)),
+        ("load 8 0 0", "the largest image, a count less", load(2_049, 8_192, 2_047, &largest)),
+        ("load 12 0 0", "the largest image and a byte", load(2_049, 8_192, 2_048, &one_more)),
+        ("load 2 0 0", "m = 8,193", load(4_096, 16_384, 4_096, &too_wide)),
     ]
 }
 

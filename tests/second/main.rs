@@ -7,7 +7,8 @@
 //! - graphs.rs, shapes.rs, damages.rs: tables and images, good and bad
 //! - limits.rs, worked.rs: cases with answers written by hand
 //! - cases.rs, superbubble_cases.rs, fold_cases.rs, program_cases.rs: all that is asked
-//! - operations.rs, answers.rs, runs.rs, turns.rs: how it is asked, and the answers that are due
+//! - operations.rs, answers.rs, runs.rs: how it is asked, and the answers that are due
+//! - turns.rs, in_a_row.rs: answers that are held to each other
 //! - parts.rs: questions and answers taken apart, and where two answers differ first
 //! - programs.rs, batch.rs, parallel.rs: the runs of the programs
 //! - sheet.rs, messages.rs: the words that the programs say
@@ -32,6 +33,7 @@ mod fold;
 mod fold_cases;
 mod graphs;
 mod image;
+mod in_a_row;
 mod launcher;
 mod limits;
 mod messages;

@@ -9,7 +9,7 @@ use crate::parts::Part;
 use crate::superbubbles;
 use crate::table::Table;
 
-/// The longest stream that a question has: the most that `show` reads.
+/// The longest stream that a question has: the most that a program reads.
 pub const LONGEST_STREAM: usize = image::LARGEST + 1;
 /// The longest slices that a question has or asks for.
 pub const MOST_ROOM: Room = Room { starts: 4_096, targets: 16_384, counts: 4_096 };
@@ -24,8 +24,11 @@ pub enum Operation {
     Check { table: Table },
     /// Image writing into a slice of so many bytes.
     Write { room: usize, table: Table },
-    /// Image reading into slices of so many numbers.
-    Read { room: Room, stream: Vec<u8> },
+    /// A look at an image, and where it is accepted a load into slices that are just as long as the
+    /// look says.
+    Look { stream: Vec<u8> },
+    /// Loading an image into slices of so many numbers.
+    Load { room: Room, stream: Vec<u8> },
     /// Listing into a slice of so many numbers.
     List { room: usize, table: Table },
     /// Judging one pair.
@@ -37,11 +40,12 @@ pub enum Operation {
 use Operation::*;
 
 /// An operation's name, and the numbers other than 0 that it can give, in the order in which it does.
-pub const OPERATIONS: [(&str, &[u32]); 7] = [
+pub const OPERATIONS: [(&str, &[u32]); 8] = [
     ("show", &[10, 11, 1, 2, 12, 3, 4, 5, 7]),
     ("check", &[1, 2, 3, 4, 5, 6, 7]),
     ("write", &[1, 2, 3, 4, 5, 6, 7, 8]),
-    ("read", &[10, 11, 1, 2, 12, 3, 4, 5, 7, 8]),
+    ("look", &[10, 11, 1, 2, 12, 3, 4, 5, 7]),
+    ("load", &[10, 11, 1, 2, 12, 3, 4, 5, 7, 8]),
     ("list", &[1, 2, 3, 4, 5, 8]),
     ("judge", &[1, 2, 3, 4, 5, 13]),
     ("fold", &[1, 2, 3, 4, 5, 6, 7, 8, 9]),
@@ -53,7 +57,8 @@ impl Operation {
             Show { .. } => "show",
             Check { .. } => "check",
             Write { .. } => "write",
-            Read { .. } => "read",
+            Look { .. } => "look",
+            Load { .. } => "load",
             List { .. } => "list",
             Judge { .. } => "judge",
             Fold { .. } => "fold",
@@ -63,10 +68,10 @@ impl Operation {
     /// Whether no slice is longer than `batch` takes it.
     pub fn fits(&self) -> bool {
         match self {
-            Show { stream } => stream.len() <= LONGEST_STREAM,
+            Show { stream } | Look { stream } => stream.len() <= LONGEST_STREAM,
             Check { table } | Judge { table, .. } => lengths(table).is_within(MOST_ROOM),
             Write { room, table } => *room <= LONGEST_IMAGE && lengths(table).is_within(MOST_ROOM),
-            Read { room, stream } => room.is_within(MOST_ROOM) && stream.len() <= LONGEST_STREAM,
+            Load { room, stream } => room.is_within(MOST_ROOM) && stream.len() <= LONGEST_STREAM,
             List { room, table } => *room <= LONGEST_LIST && lengths(table).is_within(MOST_ROOM),
             Fold { room, table, .. } => {
                 room.is_within(MOST_ROOM) && lengths(table).is_within(MOST_ROOM)
@@ -90,10 +95,14 @@ impl Operation {
                 append_lent(&mut body, table);
                 b'w'
             }
-            Read { room, stream } => {
+            Look { stream } => {
+                body.extend(stream);
+                b'k'
+            }
+            Load { room, stream } => {
                 append_room(&mut body, *room);
                 body.extend(stream);
-                b'r'
+                b'd'
             }
             List { room, table } => {
                 append_number(&mut body, *room);
@@ -121,12 +130,12 @@ impl Operation {
     /// The question taken apart.
     pub fn asked(&self) -> Vec<Part> {
         let (values, handed) = match self {
-            Show { stream } => (vec![], image::parts("the stream", stream)),
+            Show { stream } | Look { stream } => (vec![], image::parts("the stream", stream)),
             Check { table } => (vec![], table.parts()),
             Write { room, table } | List { room, table } => {
                 (vec![("room", room.to_string())], table.parts())
             }
-            Read { room, stream } => {
+            Load { room, stream } => {
                 (vec![("room", room.words())], image::parts("the stream", stream))
             }
             Judge { pair: (s, t), table } => (vec![("pair", format!("{s} {t}"))], table.parts()),
@@ -142,14 +151,14 @@ impl Operation {
     /// where rows are.
     pub fn faults(&self) -> Vec<u32> {
         match self {
-            Show { stream } => image::faults_of_reading(stream, None),
+            Show { stream } | Look { stream } => image::faults(stream),
             Check { table } => table.faults(),
             Write { room, table } => {
                 let due = |n| image::length(n as u64, table.targets.len() as u64);
                 let room_is_below = table.vertices().is_some_and(|n| (*room as u64) < due(n));
                 with(table.faults(), 8, room_is_below)
             }
-            Read { room, stream } => image::faults_of_reading(stream, Some(*room)),
+            Load { room, stream } => image::faults_of_load(stream, *room),
             List { room, table } => {
                 let room_is_below = table.vertices().is_some_and(|n| *room < 2 * n);
                 with(table.faults_without_counts(), 8, room_is_below)
@@ -167,6 +176,11 @@ impl Operation {
             }
         }
     }
+}
+
+/// The room that the header of a stream says, where it can be lent.
+pub fn exact_room(stream: &[u8]) -> Option<Room> {
+    image::room_for(stream).filter(|room| room.is_within(MOST_ROOM))
 }
 
 /// The faults, and one more where it holds.

@@ -19,6 +19,7 @@ const LONGEST_WORD: usize = 131_071;
 
 impl Cases {
     pub fn programs(&mut self) {
+        self.streams(ProgramRun::look);
         self.streams(ProgramRun::show);
         self.streams(ProgramRun::list);
         self.add_run("the example of the rules", ProgramRun::list(of_letter("J")));
@@ -27,7 +28,7 @@ impl Cases {
             let table = shape.relabelled(&mut self.next_random()).counted(1);
             self.add_run("many superbubbles", ProgramRun::list(image::of_table(&table)));
         }
-        for program in ["show", "list"] {
+        for program in ["look", "show", "list"] {
             let run = ProgramRun::of_stream(program, &["J.sbt"], of_letter("J"), Due::Usage);
             self.add_run("a name for a stream", run);
         }

@@ -1,5 +1,5 @@
-//! Runs of the programs `show`, `list`, `judge` and `fold`, one for each case, in a folder of its own:
-//! what a program is handed, what it must print, and which files it must leave.
+//! Runs of the programs `look`, `show`, `list`, `judge` and `fold`, one for each case, in a folder of its
+//! own: what a program is handed, what it must print, and which files it must leave.
 
 use crate::count::Fault;
 use crate::fold;
@@ -9,14 +9,14 @@ use crate::parts::{difference_of_parts, Part};
 use crate::programs::{self, Run, WHOLE};
 use crate::sheet;
 use crate::superbubbles::way;
-use crate::table::{number_given, Table};
+use crate::table::Table;
 use std::fs;
 use std::io;
 use std::path::Path;
 use std::time::Duration;
 
 /// The programs that are run alone, each case in a run of its own.
-pub const PROGRAMS: [&str; 4] = ["show", "list", "judge", "fold"];
+pub const PROGRAMS: [&str; 5] = ["look", "show", "list", "judge", "fold"];
 
 /// Files by name, in the order of their names. A name that ends with a slash is a folder.
 pub type Files = Vec<(String, Vec<u8>)>;
@@ -97,25 +97,24 @@ impl ProgramRun {
         ProgramRun { program, words, stream, piece: WHOLE, due, before, after }
     }
 
+    pub fn look(stream: Vec<u8>) -> ProgramRun {
+        let due = Due::Text(image::look_text(&stream));
+        ProgramRun::of_stream("look", &[], stream, due)
+    }
+
     pub fn show(stream: Vec<u8>) -> ProgramRun {
-        let due = Due::Text(image::text(&stream));
+        let due = Due::Text(image::show_text(&stream));
         ProgramRun::of_stream("show", &[], stream, due)
     }
 
     pub fn list(stream: Vec<u8>) -> ProgramRun {
-        let due = Due::Text(match table_or_number(&stream) {
-            Ok(table) => list_text(&table),
-            Err(number) => format!("refused {number}\n"),
-        });
+        let due = Due::Text(image::text(&stream, list_text));
         ProgramRun::of_stream("list", &[], stream, due)
     }
 
     /// Both words are digits.
     pub fn judge(s: &str, t: &str, stream: Vec<u8>) -> ProgramRun {
-        let due = Due::Text(match table_or_number(&stream) {
-            Ok(table) => judge_text(&table, s, t),
-            Err(number) => format!("refused {number}\n"),
-        });
+        let due = Due::Text(image::text(&stream, |table| judge_text(table, s, t)));
         ProgramRun::of_stream("judge", &[s, t], stream, due)
     }
 
@@ -280,14 +279,6 @@ fn files_in(folder: &Path, prefix: &str) -> io::Result<Files> {
 
 // ---- the texts
 
-/// The table of an image that is accepted, or the number that it is refused by.
-fn table_or_number(stream: &[u8]) -> Result<Table, u32> {
-    match number_given(&image::faults_of_reading(stream, None)) {
-        0 => Ok(image::table_in(stream)),
-        number => Err(number),
-    }
-}
-
 fn list_text(table: &Table) -> String {
     let found = (way(table).superbubbles)(table);
     let mut text = format!("superbubbles {}\n", found.len());
@@ -311,7 +302,7 @@ fn judge_text(table: &Table, s: &str, t: &str) -> String {
 /// What `fold` prints for an image, and the image that it writes, where it does.
 fn folded_file(stream: &[u8], budget: u32) -> (String, Option<Vec<u8>>) {
     let refused = |number: u32| (format!("refused {number}\n"), None);
-    let table = match table_or_number(stream) {
+    let table = match image::table_or_number(stream) {
         Ok(table) => table,
         Err(number) => return refused(number),
     };

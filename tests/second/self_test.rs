@@ -1,11 +1,12 @@
 //! The second program held to itself and to the rules: its answers to what was written by hand, the
-//! definition against the quick way, folding in turn against folding by the sum, and that the cases
-//! reach what they must.
+//! definition against the quick way, folding in turn against folding by the sum, look and load in a
+//! row, and that the cases reach what they must.
 
 use crate::cases::{self, Case};
 use crate::count::{Count, Fault};
 use crate::coverage;
 use crate::fold::{self, Folded};
+use crate::in_a_row;
 use crate::parallel;
 use crate::parts::difference_of_parts;
 use crate::quick;
@@ -20,10 +21,12 @@ pub fn check(cases: &[Case], answers: &[Vec<u8>], count: &mut Count) {
         let check = |&(case, answer): &(_, &Vec<u8>)| Some((case, check(case, answer)?));
         parallel::each(&with_answers, check).into_iter().flatten().collect()
     };
-    let kinds: [(&str, Vec<(&Case, Fault)>); 3] = [
+    let in_a_row = with_answers.iter().map(|&(case, answer)| (case, &answer[..]));
+    let kinds: [(&str, Vec<(&Case, Fault)>); 4] = [
         ("answers written by hand", each(by_hand)),
         ("answers by the definition and by the quick way", each(by_both_ways)),
         ("tables folded in turn and by the sum", cases::in_turn(cases, &fold)),
+        ("looks and loads in a row", in_a_row::checks(in_a_row)),
     ];
     for (kind, checks) in kinds {
         println!("self-test: {} {kind}", checks.len());

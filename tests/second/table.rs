@@ -28,6 +28,11 @@ impl Table {
         ]
     }
 
+    /// n and m of a table that is accepted.
+    pub fn sizes(&self) -> (usize, usize) {
+        (self.counts.len(), self.targets.len())
+    }
+
     /// n, the length of starts less 1. There is none where starts is empty.
     pub fn vertices(&self) -> Option<usize> {
         self.starts.len().checked_sub(1)

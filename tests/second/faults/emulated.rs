@@ -32,11 +32,12 @@ fn one_write(program: &[String], run: &ProgramRun) -> Judged {
 }
 
 /// Each program, by its words, on a large table and on one that is refused.
-pub fn all<'a>([show, list, judge, fold]: [&'a [String]; 4]) -> Vec<Check<'a>> {
+pub fn all<'a>([look, show, list, judge, fold]: [&'a [String]; 5]) -> Vec<Check<'a>> {
     let mut checks = Vec::new();
     for stream in [image::of_table(&shapes::chain(2_048).counted(1)), b"SBT".to_vec()] {
         let files = vec![("in.sbt".to_string(), stream.clone())];
         let runs = [
+            (look, ProgramRun::look(stream.clone())),
             (show, ProgramRun::show(stream.clone())),
             (list, ProgramRun::list(stream.clone())),
             (judge, ProgramRun::judge("0", "1", stream)),

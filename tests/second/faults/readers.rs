@@ -1,5 +1,5 @@
-//! `show`, `list` and `judge` where a read or a write fails or is cut short: no answer is made of
-//! what could not be read, and nothing is printed after what could not be written.
+//! `look`, `show`, `list` and `judge` where a read or a write fails or is cut short: no answer is made
+//! of what could not be read, and nothing is printed after what could not be written.
 
 use crate::faults::calls::Deed;
 use crate::faults::checks::{check, demand, demand_none, Check, Judged};
@@ -34,7 +34,7 @@ pub struct Reader<'a> {
 }
 
 /// The programs with a large table, and without one.
-pub fn all<'a>(show: &'a [String], list: &'a [String], judge: &'a [String]) -> Vec<Reader<'a>> {
+pub fn all<'a>([look, show, list, judge]: [&'a [String]; 4]) -> Vec<Reader<'a>> {
     let largest = image::of_table(&graphs::largest(&mut Random::of_case(1, 0)));
     let chain = image::of_table(&shapes::chain(2_048).counted(1));
     let fan = image::of_table(&shapes::fan(2_048).counted(1));
@@ -43,9 +43,11 @@ pub fn all<'a>(show: &'a [String], list: &'a [String], judge: &'a [String]) -> V
         Reader { title, program, run, least }
     };
     vec![
+        of(look, ProgramRun::look(largest.clone()), [4, 1]),
         of(show, ProgramRun::show(largest), [4, 10]),
         of(list, ProgramRun::list(chain), [3, 3]),
         of(judge, ProgramRun::judge("0", "1", fan), [4, 1]),
+        of(look, ProgramRun::look(Vec::new()), [1, 1]),
         of(show, ProgramRun::show(Vec::new()), [1, 1]),
         of(list, ProgramRun::list(Vec::new()), [1, 1]),
         of(judge, ProgramRun::judge("0", "1", Vec::new()), [1, 1]),

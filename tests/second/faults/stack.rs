@@ -11,15 +11,20 @@ use std::io;
 use std::process::Output;
 
 /// The programs' stack in KB.
+const LOOK: u32 = 128;
 const READERS: u32 = 256;
 const FOLD: u32 = 640;
 
-/// No program makes do with so little: that it fails shows that the limit is felt.
+/// With so little a program does not make do: that it fails shows that the limit is felt.
 const TOO_LITTLE: u32 = 128;
+/// `look` has one array, of 57,362 bytes. The emulator gives no program less than 128 KB.
+const TOO_LITTLE_FOR_LOOK: u32 = 48;
 
 fn stated() -> Check<'static> {
     check("docs/SHEET.md states the stack".to_string(), || {
-        let words = format!("{READERS} KB (`show`, `list`, `judge`) and {FOLD} KB (`fold`)");
+        let words = format!(
+            "{LOOK} KB (`look`), {READERS} KB (`show`, `list`, `judge`) and {FOLD} KB (`fold`)"
+        );
         demand(sheet::has(&words), || format!("it does not say {words}"))
     })
 }
@@ -43,16 +48,16 @@ fn enough<'a>(program: &'a [String], run: ProgramRun, kilobytes: u32) -> Check<'
     })
 }
 
-fn too_little<'a>(program: &'a [String], run: ProgramRun) -> Check<'a> {
-    let title = format!("{} with {TOO_LITTLE} KB of stack, which is too little", run.command());
+fn too_little<'a>(program: &'a [String], run: ProgramRun, kilobytes: u32) -> Check<'a> {
+    let title = format!("{} with {kilobytes} KB of stack, which is too little", run.command());
     check(title, move || {
-        let done = limited(program, &run, TOO_LITTLE)?;
+        let done = limited(program, &run, kilobytes)?;
         demand(!done.status.success(), || "it runs all the same".to_string())
     })
 }
 
 /// Each program, by its words, on its largest tables: the most edges, and the longest path.
-pub fn all<'a>([show, list, judge, fold]: [&'a [String]; 4]) -> Vec<Check<'a>> {
+pub fn all<'a>([look, show, list, judge, fold]: [&'a [String]; 5]) -> Vec<Check<'a>> {
     let judge_run = |stream: &[u8]| ProgramRun::judge("0", "2041", stream.to_vec());
     let fold_run = |budget, stream: &[u8]| {
         let files = vec![("in.sbt".to_string(), stream.to_vec())];
@@ -61,16 +66,21 @@ pub fn all<'a>([show, list, judge, fold]: [&'a [String]; 4]) -> Vec<Check<'a>> {
     let tables = [shapes::ladder().counted(1), shapes::chain(2_048).counted(1)];
     let mut checks = vec![stated()];
     for stream in tables.map(|table| image::of_table(&table)) {
+        checks.push(enough(look, ProgramRun::look(stream.clone()), LOOK));
         checks.push(enough(show, ProgramRun::show(stream.clone()), READERS));
         checks.push(enough(list, ProgramRun::list(stream.clone()), READERS));
         checks.push(enough(judge, judge_run(&stream), READERS));
         for budget in [0, u32::MAX] {
             checks.push(enough(fold, fold_run(budget, &stream), FOLD));
         }
-        checks.push(too_little(show, ProgramRun::show(stream.clone())));
-        checks.push(too_little(list, ProgramRun::list(stream.clone())));
-        checks.push(too_little(judge, judge_run(&stream)));
-        checks.push(too_little(fold, fold_run(0, &stream)));
+        if !is_emulated(look) {
+            let run = ProgramRun::look(stream.clone());
+            checks.push(too_little(look, run, TOO_LITTLE_FOR_LOOK));
+        }
+        checks.push(too_little(show, ProgramRun::show(stream.clone()), TOO_LITTLE));
+        checks.push(too_little(list, ProgramRun::list(stream.clone()), TOO_LITTLE));
+        checks.push(too_little(judge, judge_run(&stream), TOO_LITTLE));
+        checks.push(too_little(fold, fold_run(0, &stream), TOO_LITTLE));
     }
     checks
 }
