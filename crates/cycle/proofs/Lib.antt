@@ -1,4 +1,3 @@
 -- The laws of `cycle`, in the order in which one reads them. Assumes nothing.
-pub mod SafeLaws
-pub mod CountLaws
-pub mod VisitLaws
+pub mod ClearLaws
+pub mod RootLaws

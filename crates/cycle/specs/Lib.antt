@@ -1,2 +1,2 @@
 -- The definitions of `cycle`. Assumes nothing.
-pub mod Visits
+pub mod Testing

@@ -1,13 +1,15 @@
-// The cycle test: depth first, each vertex's successors visited through its row alone.
+// The cycle test: a visit from one vertex after another, over the whole table or a part of it.
 ghost use Prim.Native.Nat.{_≤_};
 ghost use mathlib.Core.Path.{_≡_};
 ghost use lib.ListN.{length};
 ghost use Rattle.table.specs.Limits.{vertex-limit};
 ghost use Rattle.table.specs.Verdict.{Says};
-ghost use Rattle.table.specs.Table.{Edge, In};
+ghost use Rattle.table.specs.Table.{Edge};
 ghost use Rattle.bubble.specs.Cycle.{Cyclic};
-ghost use Rattle.cycle.specs.Visits.{Testable, Unvisited, Visitable, Answer};
+ghost use Rattle.visiting.specs.Visits.{Followed, Prepared};
+ghost use Rattle.cycle.specs.Testing.{Testable, Unvisited};
 use table::VERTEX_LIMIT;
+use visiting::visit;
 
 // Sets the first n colours to 0.
 fn clear(colours: &mut [u8; VERTEX_LIMIT], n: usize)
@@ -22,37 +24,27 @@ fn clear(colours: &mut [u8; VERTEX_LIMIT], n: usize)
     }
 }
 
-// Visits v, and through its row each successor that is unvisited. A vertex that is still on the path closes a cycle.
-fn visit(starts: &[u32], targets: &[u32], colours: &mut [u8; VERTEX_LIMIT], v: usize) -> bool
-    requires { ⌜ Visitable (now starts) (now targets) (now colours) (λ u. u ≡ v) ⌝ }
-    ensures { λ r. ⌜ Answer r (now (starts .entry)) (now (targets .entry)) (now (colours .entry)) (now (colours .exit)) (λ u. u ≡ v) ⌝ }
+// Whether the edges between unvisited vertices have a directed cycle, the edge from>to passed over. So a colour of 2 or more keeps a vertex out, and where `from` is no vertex
+// no edge is passed over. The colours, the path and the places are room to work in.
+pub fn has_cycle_within(
+    starts: &[u32],
+    targets: &[u32],
+    colours: &mut [u8],
+    path: &mut [u16],
+    places: &mut [u16],
+    from: usize,
+    to: u32,
+) -> bool
+    requires { ⌜ Prepared (now starts) (now targets) (now colours) (now path) (now places) ⌝ }
+    ensures { λ r. ⌜ Says r (Cyclic (Followed (now (starts .entry)) (now (targets .entry)) (now (colours .entry)) from to)) ⌝ }
 {
-    let colour = colours[v];
-    if colour == 1 {
-        return true;
-    }
-    if colour != 0 {
-        return false;
-    }
-    colours[v] = 1;
-    if walk_row(starts, targets, colours, table::row(starts, targets, v)) {
-        return true;
-    }
-    colours[v] = 2;
-    false
-}
-
-// Visits each vertex of a row in turn.
-fn walk_row(starts: &[u32], targets: &[u32], colours: &mut [u8; VERTEX_LIMIT], row: &[u32]) -> bool
-    requires { ⌜ Visitable (now starts) (now targets) (now colours) (λ u. In u (now row)) ⌝ }
-    ensures { λ r. ⌜ Answer r (now (starts .entry)) (now (targets .entry)) (now (colours .entry)) (now (colours .exit)) (λ u. In u (now (row .entry))) ⌝ }
-{
-    let mut k = 0;
-    while k < row.len() {
-        if visit(starts, targets, colours, row[k] as usize) {
+    let n = starts.len() - 1;
+    let mut v = 0;
+    while v < n {
+        if visit(starts, targets, colours, path, places, v, from, to) {
             return true;
         }
-        k += 1;
+        v += 1;
     }
     false
 }
@@ -64,12 +56,7 @@ pub fn has_cycle(starts: &[u32], targets: &[u32], colours: &mut [u8; VERTEX_LIMI
 {
     let n = starts.len() - 1;
     clear(colours, n);
-    let mut v = 0;
-    while v < n {
-        if visit(starts, targets, colours, v) {
-            return true;
-        }
-        v += 1;
-    }
-    false
+    let mut path = [0u16; VERTEX_LIMIT];
+    let mut places = [0u16; VERTEX_LIMIT];
+    has_cycle_within(starts, targets, colours, &mut path, &mut places, n, 0)
 }

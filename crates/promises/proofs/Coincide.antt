@@ -1,6 +1,6 @@
 -- Two results that a contract allows coincide, for each public function of the library, and of those from bytes to bytes: number, fields and all memory lent. What escapes
 -- is in docs/CONTRACTS.md.
--- Working room is left open: the order of a search, the colours of the cycle test, the best sums of a kept path. No result depends on what stood in it: two calls with
+-- Working room is left open: the order of a search, the colours, the path and the places of the cycle test, the best sums of a kept path. No result depends on what stood in it: two calls with
 -- different working room coincide. Assumes nothing.
 use Prim.Native.Nat.{ℕ, _<_, _≤_}
 use mathlib.Core.Path.{_≡_, refl, sym, _∙_}
@@ -29,6 +29,8 @@ use Rattle.search.specs.declared.Exit.{Exit}
 use Rattle.search.specs.Search.{Visited, Sought}
 use Rattle.search.proofs.AnswerLaws.{shown, answer-unique}
 use Rattle.bubble.specs.Cycle.{Cyclic}
+use Rattle.visiting.specs.Visits.{Followed, Visitable, VisitAnswer}
+use Rattle.visiting.proofs.AnswerLaws.{visit-answer-unique}
 use Rattle.listing.specs.declared.Found.{Found}
 use Rattle.listing.specs.Listing.{ListDone}
 use Rattle.listing.proofs.Determined.{superbubbles-determined, list-determined}
@@ -143,6 +145,17 @@ search-coincides starts targets pending order order′ pending₁ order₁ pendi
 pub order-shows-same : {starts targets order₁ order₂ : List ℕ} {s t k₁ k₂ : ℕ} → Visited starts targets order₁ s t k₁ → Visited starts targets order₂ s t k₂
     → (i : ℕ) → i < k₁ → (j : ℕ) × (j < k₂) × (getD order₂ j 0 ≡ getD order₁ i 0)
 order-shows-same = shown
+
+-- `visiting::visit`: the answer
+pub visit-coincides : {starts targets colours path places : List ℕ} {root : ℕ} → Visitable starts targets colours path places root → (from to : ℕ)
+    (colours₁ path₁ places₁ colours₂ path₂ places₂ : List ℕ) (r₁ r₂ : Bool) → VisitAnswer r₁ starts targets colours from to root colours₁ path₁ places₁
+    → VisitAnswer r₂ starts targets colours from to root colours₂ path₂ places₂ → r₁ ≡ r₂
+visit-coincides = visit-answer-unique
+
+-- `cycle::has_cycle_within`: the answer
+pub has-cycle-within-coincides : (rows : Rows) (colours : List ℕ) (from to : ℕ) (r₁ r₂ : Bool) → Says r₁ (Cyclic (Followed (rows .starts) (rows .targets) colours from to))
+    → Says r₂ (Cyclic (Followed (rows .starts) (rows .targets) colours from to)) → r₁ ≡ r₂
+has-cycle-within-coincides rows colours from to = says-unique (Cyclic (Followed (rows .starts) (rows .targets) colours from to))
 
 -- `cycle::has_cycle`: the answer
 pub has-cycle-coincides : (rows : Rows) (r₁ r₂ : Bool) → Says r₁ (Cyclic (edges rows)) → Says r₂ (Cyclic (edges rows)) → r₁ ≡ r₂

@@ -3,8 +3,8 @@ use Prim.Native.Nat.{_-_, _≤_}
 use mathlib.Core.Path.{_≡_, refl}
 use native.Mathlib.Omega.{arith}
 use borrow.Author.Needs.{needs}
-use Rattle.cycle.specs.Visits.{Unvisited}
-use Rattle.cycle.proofs.VisitLaws.{cleared-more}
+use Rattle.cycle.specs.Testing.{Unvisited}
+use Rattle.cycle.proofs.ClearLaws.{cleared-more}
 use Rattle.cycle.proofs.clear.Statement.{statement}
 use Rattle.cycle.proofs.clear.Tie as tie
 

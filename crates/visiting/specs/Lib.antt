@@ -1,0 +1,2 @@
+-- The definitions of `visiting`. Assumes nothing.
+pub mod Visits
