@@ -71,7 +71,8 @@ fn print(what: &str, parts: &[Part]) {
 fn of_answer(case: &Case, answer: &[u8]) -> Checks {
     let by_hand = self_test::by_hand(case, answer).map(|fault| ("written by hand", fault));
     let both_ways = self_test::by_both_ways(case, answer).map(|fault| ("by the quick way", fault));
-    by_hand.into_iter().chain(both_ways).collect()
+    let by_walk = self_test::by_walk(case, answer).map(|fault| ("by a walk", fault));
+    by_hand.into_iter().chain(both_ways).chain(by_walk).collect()
 }
 
 /// Alone, and among the questions among which it stands in a comparison.

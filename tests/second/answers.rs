@@ -70,6 +70,15 @@ impl Operation {
         }
     }
 
+    /// The table of a fold that comes to the cycle test, by its answer, and whether it is refused
+    /// there.
+    pub fn cycle_tested(&self, answer: &[u8]) -> Option<(&Table, bool)> {
+        match (self, &numbers_in_first_line(answer)[..]) {
+            (Fold { table, .. }, [number @ (0 | 9), ..]) => Some((table, *number == 9)),
+            _ => None,
+        }
+    }
+
     /// How long the answer to this question is in what a program printed, by its own first line;
     /// none where the output ends before the answer does.
     pub fn length_in(&self, output: &[u8]) -> Option<usize> {

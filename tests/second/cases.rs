@@ -125,6 +125,7 @@ pub fn all(seed: u64) -> Vec<Case> {
     cases.noise();
     cases.superbubbles();
     cases.folds();
+    cases.cycles();
     cases.programs();
     cases.folds_in_turn();
     cases.list

@@ -1,13 +1,16 @@
 //! What the cases must reach: each operation gives each of its numbers, and no other; each two numbers
 //! that can hold together do so in some case, for otherwise their order would not be tried; images are
-//! loaded with room of each kind; and the answers about superbubbles are not the easy ones alone.
+//! loaded with room of each kind; the answers about superbubbles are not the easy ones alone; and
+//! the cycle test meets every small graph, deep paths, long rows and self-loops, with a cycle and
+//! without one.
 
 use crate::answers::numbers_in_first_line;
 use crate::cases::Case;
 use crate::count::Fault;
 use crate::image::{self, Room, ROOMS};
 use crate::operations::{exact_room, Operation, OPERATIONS};
-use crate::table::number_given;
+use crate::table::{number_given, Table, MOST_EDGES};
+use crate::walk::{self, Closed, Walk};
 use std::collections::HashSet;
 
 const FEWEST: usize = 5;
@@ -26,6 +29,9 @@ pub fn check(cases: &[Case], answers: &[Vec<u8>]) -> Vec<(String, Fault)> {
         println!("{operation}: {cases} {what}");
         checks.push((format!("{operation}: {what}"), too_few(cases, fewest)));
     }
+    let folds: Vec<Fold> = cases.iter().zip(answers).filter_map(Fold::of).collect();
+    checks.extend(every_small_graph(&folds));
+    checks.extend(cycles(&folds));
     checks
 }
 
@@ -153,6 +159,149 @@ fn slices_alone(loads: &[Load]) -> Vec<(String, Fault)> {
         let tried = loads.iter().filter(is_such).count();
         println!("load: {tried} refused 8 for {name} alone");
         checks.push((format!("load refuses 8 for {name} alone"), too_few(tried, FEWEST)));
+    }
+    checks
+}
+
+/// A fold that comes to the cycle test: whether it is refused there, and the walk over its table.
+struct Fold<'a> {
+    table: &'a Table,
+    is_refused: bool,
+    walk: Walk,
+}
+
+impl Fold<'_> {
+    fn of<'a>((case, answer): (&'a Case, &Vec<u8>)) -> Option<Fold<'a>> {
+        let (table, is_refused) = case.operation()?.cycle_tested(answer)?;
+        Some(Fold { table, is_refused, walk: walk::over(table) })
+    }
+
+    fn vertices(&self) -> usize {
+        self.table.counts.len()
+    }
+
+    fn has_long_row(&self) -> bool {
+        self.table.starts.windows(2).any(|two| two[1] - two[0] >= 1_000)
+    }
+
+    /// Whether it is refused, and the walk closes a cycle like this.
+    fn closes(&self, such: impl Fn(&Closed) -> bool) -> bool {
+        self.is_refused && self.walk.closed.as_ref().is_some_and(such)
+    }
+
+    /// The same, and there is no cycle without the edge that closes it.
+    fn closes_alone(&self, such: impl Fn(&Closed) -> bool) -> bool {
+        self.closes(|by| such(by) && walk::over_without(by.edge, self.table).closed.is_none())
+    }
+
+    /// Whether it is refused for a self-loop at such a vertex, and for no other cycle.
+    fn has_self_loop_alone(&self, such: impl Fn(usize) -> bool) -> bool {
+        self.closes_alone(|by| by.cycle == 1 && such(by.edge.0))
+    }
+
+    /// Whether it is refused, and the walk closes a cycle by such a place of a row that is so long.
+    fn closes_in_row(&self, such: fn(usize, usize) -> bool) -> bool {
+        self.closes(|by| such(by.place, self.table.row(by.edge.0).len()))
+    }
+}
+
+/// How many graphs of 0, 1, 2, 3 and 4 vertices have no cycle.
+const WITHOUT_CYCLE: [usize; 5] = [1, 1, 3, 25, 543];
+
+/// Every graph of so few vertices is folded: without a cycle it is accepted, and else refused.
+fn every_small_graph(folds: &[Fold]) -> Vec<(String, Fault)> {
+    let mut checks = Vec::new();
+    for (n, without) in WITHOUT_CYCLE.into_iter().enumerate() {
+        let graphs = |is_refused| {
+            let such = folds.iter().filter(|fold| fold.vertices() == n);
+            let such = such.filter(|fold| fold.is_refused == is_refused);
+            such.map(|fold| (&fold.table.starts, &fold.table.targets)).collect::<HashSet<_>>().len()
+        };
+        let (accepted, refused) = (graphs(false), graphs(true));
+        println!("fold, all graphs with n = {n}: {accepted} accepted, {refused} refused 9");
+        let with = (1 << (n * n)) - without;
+        for (title, graphs, due) in [("accepts", accepted, without), ("refuses", refused, with)] {
+            let fault = (graphs != due).then(|| format!("{graphs}, {due} are due"));
+            checks.push((format!("fold {title} graphs with n = {n}"), fault));
+        }
+    }
+    checks
+}
+
+/// What folds must meet in the cycle test, and how many at least. A path is that of the walk.
+type Met = (&'static str, usize, fn(&Fold) -> bool);
+
+const MET: [Met; 20] = [
+    ("accepted, with a path of 1,000 vertices or more", 25, |fold| {
+        !fold.is_refused && fold.walk.longest >= 1_000
+    }),
+    ("refused 9, with a path of 1,000 vertices or more", 40, |fold| {
+        fold.is_refused && fold.walk.longest >= 1_000
+    }),
+    ("refused 9 behind a path of 1,000 vertices or more", 5, |fold| {
+        fold.closes(|by| by.path <= 10 && fold.walk.longest >= 1_000)
+    }),
+    ("accepted, with a path of 2,048 vertices", 5, |fold| {
+        !fold.is_refused && fold.walk.longest == 2_048
+    }),
+    ("refused 9 at the end of such a path, for a cycle of 1", 3, |fold| {
+        fold.closes(|by| by.path == 2_048 && by.cycle == 1)
+    }),
+    ("refused 9 at the end of such a path, for a cycle of 2", 3, |fold| {
+        fold.closes(|by| by.path == 2_048 && by.cycle == 2)
+    }),
+    ("refused 9 at the end of such a path, for a cycle of 2,048", 5, |fold| {
+        fold.closes(|by| by.path == 2_048 && by.cycle == 2_048)
+    }),
+    ("refused 9 at the beginning of such a path", 5, |fold| {
+        let goes_on = |by: &Closed| walk::over_without(by.edge, fold.table).longest == 2_048;
+        fold.walk.longest <= 2 && fold.closes(goes_on)
+    }),
+    ("accepted, with a row of 1,000 targets or more", 15, |fold| {
+        !fold.is_refused && fold.has_long_row()
+    }),
+    ("refused 9, with a row of 1,000 targets or more", 20, |fold| {
+        fold.is_refused && fold.has_long_row()
+    }),
+    ("refused 9 for the first target of such a row", 5, |fold| {
+        fold.closes_in_row(|place, targets| place == 0 && targets >= 1_000)
+    }),
+    ("refused 9 for the last target of such a row", 4, |fold| {
+        fold.closes_in_row(|place, targets| place + 1 == targets && targets >= 1_000)
+    }),
+    ("accepted, with 1,000 edges or more to what is done", 50, |fold| {
+        !fold.is_refused && fold.walk.to_done >= 1_000
+    }),
+    ("refused 9 behind 1,000 edges or more to what is done", 25, |fold| {
+        fold.is_refused && fold.walk.to_done >= 1_000
+    }),
+    ("accepted, with 8,192 edges", 6, |fold| {
+        !fold.is_refused && fold.table.targets.len() == MOST_EDGES
+    }),
+    ("refused 9, with 8,192 edges, for one without which there is no cycle", 15, |fold| {
+        fold.table.targets.len() == MOST_EDGES && fold.closes_alone(|_| true)
+    }),
+    ("refused 9 for a self-loop alone", 2_300, |fold| fold.has_self_loop_alone(|_| true)),
+    ("refused 9 for a self-loop alone, at the first of 1,000 vertices or more", 10, |fold| {
+        fold.vertices() >= 1_000 && fold.has_self_loop_alone(|vertex| vertex == 0)
+    }),
+    ("refused 9 for a self-loop alone, at the last of 1,000 vertices or more", 10, |fold| {
+        let n = fold.vertices();
+        n >= 1_000 && fold.has_self_loop_alone(|vertex| vertex + 1 == n)
+    }),
+    ("refused 9 for a self-loop alone, at a vertex beside 1,000 edges or more", 3, |fold| {
+        let is_at = |vertex, (from, to)| from == vertex || to == vertex;
+        let edges = |at| fold.table.edges().into_iter().filter(|&edge| is_at(at, edge)).count();
+        fold.table.targets.len() > 1_000 && fold.has_self_loop_alone(|vertex| edges(vertex) == 1)
+    }),
+];
+
+fn cycles(folds: &[Fold]) -> Vec<(String, Fault)> {
+    let mut checks = Vec::new();
+    for (what, fewest, holds) in MET {
+        let met = folds.iter().filter(|fold| holds(fold)).count();
+        println!("fold: {met} {what}");
+        checks.push((format!("fold: {what}"), too_few(met, fewest)));
     }
     checks
 }

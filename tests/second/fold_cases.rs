@@ -1,26 +1,29 @@
 //! The cases for fold: random tables without a cycle, with counts of which many are 0 or equal,
-//! numbered at random; tables with cycles; damaged ones; large ones; and tables to be folded in turn.
+//! numbered at random; tables with cycles; damaged ones; large ones; for the cycle test every small
+//! graph, deep paths, long rows and self-loops, each with a cycle and without one; and tables to be
+//! folded in turn.
 
 use crate::cases::{self, Cases};
 use crate::damages::{self, OF_TABLE};
-use crate::graphs;
+use crate::graphs::{self, Edge};
 use crate::image::Room;
 use crate::operations::Operation;
 use crate::random::Random;
-use crate::shapes;
+use crate::shapes::{self, Shape, BOTTOM, TOP};
 use crate::table::Table;
 use crate::turns::Turns;
 
 impl Cases {
     pub fn folds(&mut self) {
         for _ in 0..2_500 {
-            self.fold("any graph without a cycle", acyclic_small);
+            self.fold("any graph without a cycle", |random| acyclic_small(random).table(random));
         }
         for _ in 0..8_500 {
-            self.fold("a small graph rich in superbubbles", bubbly_small);
+            let make = |random: &mut Random| bubbly_small(random).table(random);
+            self.fold("a small graph rich in superbubbles", make);
         }
         for _ in 0..400 {
-            self.fold("a graph rich in superbubbles", bubbly);
+            self.fold("a graph rich in superbubbles", |random| bubbly(random).table(random));
         }
         for _ in 0..600 {
             self.fold("any graph", graphs::any);
@@ -31,7 +34,7 @@ impl Cases {
         }
         for _ in 0..6 {
             for (name, make) in LARGE {
-                self.fold(name, make);
+                self.fold(name, |random| make(random).table(random));
             }
         }
         for chosen in damages::choices(OF_TABLE.len(), self.seed) {
@@ -51,6 +54,112 @@ impl Cases {
         });
     }
 
+    /// Tables for the cycle test.
+    pub fn cycles(&mut self) {
+        for n in 0..=4 {
+            for shape in shapes::every(n) {
+                self.fold_exactly("every graph of few vertices", |random| shape.table(random));
+            }
+        }
+        self.deep_paths();
+        self.long_rows();
+        self.self_loops();
+        let to_close: [(usize, &str, Make); 4] = [
+            (150, "any graph without a cycle", acyclic_small),
+            (150, "a small graph rich in superbubbles", bubbly_small),
+            (100, "a graph rich in superbubbles", bubbly),
+            (12, "a large graph rich in superbubbles", bubbly_large),
+        ];
+        for (many, name, make) in to_close {
+            for _ in 0..many {
+                self.fold_exactly(&format!("{name}, and an edge that closes a cycle"), |random| {
+                    make(random).closed(random).table(random)
+                });
+                self.begins(CYCLE);
+            }
+        }
+    }
+
+    /// Paths of many vertices, with a cycle at their end, at their beginning, between and nowhere.
+    fn deep_paths(&mut self) {
+        // shorter ones are among the graphs of few vertices
+        for n in [5, 255, 256, 257, 1_023, 1_024, 2_048] {
+            let (last, middle) = (n - 1, n / 2);
+            let at_the_end = [(last, last - 1), (last, last), (last, 0)];
+            let at_the_beginning = [(1, 0), (0, 0)];
+            let between = [(middle, middle - 1), (middle, middle), (last - 1, 1)];
+            let closing = [&at_the_end[..], &at_the_beginning, &between].concat();
+            let others = [(0, last), (last - 2, last)];
+            self.with_one_more(&format!("a chain of {n}"), shapes::chain(n), &closing, &others);
+        }
+        // a row is left for a deep path, and gone on with afterwards
+        let closing = [(1_024, 0), (1_025, 0), (2_047, 0), (1_024, 1_024)];
+        self.with_one_more("a comb of 2,048", shapes::comb(2_048), &closing, &[(1_024, 1)]);
+        let late = [(TOP, 0), (TOP, TOP), (TOP - 1, TOP), (TOP - 100, TOP - 1)];
+        let closing = [&late[..], &[(BOTTOM, TOP), (BOTTOM, BOTTOM)]].concat();
+        let others = [(0, BOTTOM), (TOP, BOTTOM)];
+        self.with_one_more("a backbone", shapes::backbone(), &closing, &others);
+        // what is done is met again, many times
+        let closing = [(2_044, 0), (2_044, 2_044), (2_044, 2_045), (1, 0), (1, 2)];
+        let others = [(2, 3), (0, 2_044)];
+        self.with_one_more("682 diamonds", shapes::diamonds(682), &closing, &others);
+        let closing = [(2_047, 0), (2_047, 2_046), (2_047, 2_047), (1, 0), (1_024, 1_020)];
+        let band = shapes::band(2_048, 8_191);
+        self.with_one_more("a band of 2,048 with 8,191 edges", band, &closing, &[(0, 2_047)]);
+    }
+
+    /// Rows of many targets, of which the first, the last, one between or none leads to a cycle.
+    fn long_rows(&mut self) {
+        let closing = [(1, 0), (1_024, 0), (2_047, 0), (0, 0), (2_047, 2_047)];
+        let [one, four] = [1, 4].map(|rows| shapes::wide(2_048, rows));
+        self.with_one_more("a row of 2,047", one.clone(), &closing, &[(1, 2_047), (2_047, 1)]);
+        self.with_one_more("four rows of 2,044 or more", four, &closing, &[(4, 2_047), (2_047, 4)]);
+        let closing = [(0, 1), (0, 1_024), (0, 2_047), (0, 0)];
+        let turned_round = shapes::turned_round(one);
+        self.with_one_more("a row of 2,047, turned round", turned_round, &closing, &[(2_047, 1)]);
+        let closing = [(128, 0), (128, 127), (128, 128), (64, 63), (1, 0)];
+        let band = shapes::band(129, 8_191);
+        self.with_one_more("a band of 129 with 8,191 edges", band, &closing, &[(0, 128)]);
+    }
+
+    /// Self-loops at vertices that have no other edge.
+    fn self_loops(&mut self) {
+        let closing = [(0, 0), (1_000, 1_000), (2_047, 2_047)];
+        let no_edges = Shape { n: 2_048, edges: vec![] };
+        self.with_one_more("2,048 vertices", no_edges, &closing, &[(2_047, 0)]);
+        let beside = Shape { n: 2_048, ..shapes::chain(2_047) };
+        let name = "a vertex beside a chain of 2,047";
+        self.with_one_more(name, beside, &[(2_047, 2_047)], &[(2_047, 0)]);
+    }
+
+    /// A graph without a cycle, as it is and with one edge more, which closes one or does not.
+    fn with_one_more(&mut self, name: &str, shape: Shape, closing: &[Edge], others: &[Edge]) {
+        self.in_each_numbering(name, &shape, NO_CYCLE);
+        for (edges, begin) in [(closing, CYCLE), (others, NO_CYCLE)] {
+            for &(from, to) in edges {
+                let name = format!("{name}, and {from}>{to}");
+                self.in_each_numbering(&name, &shape.and((from, to)), begin);
+            }
+        }
+    }
+
+    /// A graph for which it is known how the answer begins.
+    fn in_each_numbering(&mut self, name: &str, shape: &Shape, begin: &str) {
+        for (numbered, number) in NUMBERINGS {
+            self.fold_exactly(&format!("{name}, {numbered}"), |random| {
+                number(shape, random).table(random)
+            });
+            self.begins(begin);
+        }
+    }
+
+    fn fold_exactly(&mut self, name: &str, make: impl Fn(&mut Random) -> Table) {
+        self.add(name, |random| {
+            let table = make(random);
+            Operation::fold_exactly(budget(random), table)
+        });
+    }
+
     /// Tables to be folded in turn.
     pub fn folds_in_turn(&mut self) {
         let small: [(usize, &str, Make); 3] = [
@@ -66,38 +175,50 @@ impl Cases {
 
     fn turns(&mut self, name: &str, make: Make) {
         let random = &mut self.next_random();
-        let table = make(random);
+        let table = make(random).table(random);
         let budgets = [(); 3].map(|_| random.one_of(&[0, 1, 1, 2, 3, 40, 1_000_000_000]));
         self.add_turns(name, Turns { table, budgets, further: budget(random) });
     }
 }
 
-type Make = fn(&mut Random) -> Table;
+type Make = fn(&mut Random) -> Shape;
 
 const LARGE: [(&str, Make); 6] = [
-    ("a large graph rich in superbubbles", |random| {
-        shapes::bubbly_acyclic(random, 2_048).table(random)
-    }),
-    ("nests twenty deep", |random| shapes::nests(20, 34).relabelled(random).table(random)),
-    ("a nest of 680", |random| shapes::nests(680, 1).relabelled(random).table(random)),
-    ("many small bubbles", |random| shapes::nests(1, 1_023).relabelled(random).table(random)),
-    ("a ladder", |random| shapes::ladder().relabelled(random).table(random)),
-    ("a fan", |random| shapes::fan(2_048).relabelled(random).table(random)),
+    ("a large graph rich in superbubbles", bubbly_large),
+    ("nests twenty deep", |random| shapes::nests(20, 34).relabelled(random)),
+    ("a nest of 680", |random| shapes::nests(680, 1).relabelled(random)),
+    ("many small bubbles", |random| shapes::nests(1, 1_023).relabelled(random)),
+    ("a ladder", |random| shapes::ladder().relabelled(random)),
+    ("a fan", |random| shapes::fan(2_048).relabelled(random)),
 ];
 
-fn acyclic_small(random: &mut Random) -> Table {
+/// How the answer to a fold begins.
+const NO_CYCLE: &str = "fold 0 ";
+const CYCLE: &str = "fold 9 0 0 0\n";
+
+const NUMBERINGS: [(&str, fn(&Shape, &mut Random) -> Shape); 3] = [
+    ("as it is", |shape, _| shape.clone()),
+    ("numbered backwards", |shape, _| shape.numbered_backwards()),
+    ("numbered at random", Shape::relabelled),
+];
+
+fn acyclic_small(random: &mut Random) -> Shape {
     let n = random.between(3, 8);
-    shapes::acyclic(random, n).relabelled(random).table(random)
+    shapes::acyclic(random, n).relabelled(random)
 }
 
-fn bubbly_small(random: &mut Random) -> Table {
+fn bubbly_small(random: &mut Random) -> Shape {
     let n = random.between(6, 10);
-    shapes::bubbly_acyclic(random, n).table(random)
+    shapes::bubbly_acyclic(random, n)
 }
 
-fn bubbly(random: &mut Random) -> Table {
+fn bubbly(random: &mut Random) -> Shape {
     let n = random.between(11, 150);
-    shapes::bubbly_acyclic(random, n).table(random)
+    shapes::bubbly_acyclic(random, n)
+}
+
+fn bubbly_large(random: &mut Random) -> Shape {
+    shapes::bubbly_acyclic(random, 2_048)
 }
 
 fn budget(random: &mut Random) -> u32 {

@@ -5,7 +5,7 @@ use crate::graphs::{self, lettered};
 use crate::image::{self, Room};
 use crate::operations::Operation;
 use crate::random::Random;
-use crate::shapes;
+use crate::shapes::{self, Shape};
 use crate::table::{Table, LARGEST_SUM, MOST_EDGES, MOST_VERTICES};
 
 /// The first line of the answer, the case in words, and what is asked.
@@ -25,6 +25,7 @@ pub fn all(seed: u64) -> Vec<Limit> {
     all.extend(lists(&largest, &too_wide));
     all.extend(judges(&too_wide));
     all.extend(folds(&too_wide));
+    all.extend(cycles());
     all
 }
 
@@ -157,7 +158,7 @@ fn loads(largest: &Table, too_wide: &Table) -> Vec<Limit> {
 fn lists(largest: &Table, too_wide: &Table) -> Vec<Limit> {
     let list = |room, table: &Table| Operation::List { room, table: table.clone() };
     let (a, j) = (lettered("A").table(), graphs::j());
-    let no_edges = shapes::Shape { n: 2_048, edges: vec![] }.counted(0);
+    let no_edges = Shape { n: 2_048, edges: vec![] }.counted(0);
     let too_long = shapes::chain(2_049).counted(0);
     let overcounted = Table { counts: vec![u64::MAX; 3], ..j.clone() };
     vec![
@@ -217,9 +218,7 @@ fn judges(too_wide: &Table) -> Vec<Limit> {
 
 fn folds(too_wide: &Table) -> Vec<Limit> {
     let fold = |budget, room, table: &Table| Operation::Fold { budget, room, table: table.clone() };
-    let of = |budget, table: &Table| {
-        fold(budget, Room::of(table.counts.len(), table.targets.len()), table)
-    };
+    let of = |budget, table: &Table| Operation::fold_exactly(budget, table.clone());
     let room = |starts, targets, counts| Room { starts, targets, counts };
     let (a, f, j) = (lettered("A").table(), lettered("F").table(), graphs::j());
     let one_too_large = Table { counts: vec![LARGEST_SUM, 0, 0, 0, 1, 0, 0], ..j.clone() };
@@ -252,6 +251,32 @@ fn folds(too_wide: &Table) -> Vec<Limit> {
         ("fold 0 34 0 1360", "34 nests of 20", of(34, &nests)),
         ("fold 0 33 1 1399", "34 nests of 20, budget 33", of(33, &nests)),
         ("fold 0 1000 23 2069", "1,023 bubbles, budget 1,000", of(1_000, &bubbles)),
+    ]
+}
+
+/// For the cycle test: deep paths, long rows and self-loops, folded with budget 1.
+fn cycles() -> Vec<Limit> {
+    let fold = |shape: Shape| Operation::fold_exactly(1, shape.counted(1));
+    let (chain, row) = (shapes::chain(2_048), shapes::wide(2_048, 1));
+    let no_edges = Shape { n: 2_048, edges: vec![] };
+    let back = shapes::band(2_048, 8_191).and((2_047, 0));
+    vec![
+        ("fold 0 0 0 2047", "a chain of 2,048 backwards", fold(chain.numbered_backwards())),
+        ("fold 9 0 0 0", "a chain and 2047>2046", fold(chain.and((2_047, 2_046)))),
+        ("fold 9 0 0 0", "a chain and 2047>2047", fold(chain.and((2_047, 2_047)))),
+        ("fold 9 0 0 0", "a chain and 1>0", fold(chain.and((1, 0)))),
+        ("fold 9 0 0 0", "a chain and 0>0", fold(chain.and((0, 0)))),
+        // the chain is kept, and the bare edge goes
+        ("fold 0 1 0 2047", "a chain and 0>2047", fold(chain.and((0, 2_047)))),
+        ("fold 0 0 0 2047", "a row of 2,047", fold(row.clone())),
+        ("fold 9 0 0 0", "a row of 2,047 and 2047>0", fold(row.and((2_047, 0)))),
+        ("fold 9 0 0 0", "a row of 2,048, itself among it", fold(row.and((0, 0)))),
+        ("fold 0 0 0 8182", "rows of 2,047 to 2,044", fold(shapes::wide(2_048, 4))),
+        ("fold 9 0 0 0", "2,048 vertices and 2047>2047", fold(no_edges.and((2_047, 2_047)))),
+        ("fold 0 1 681 2726", "682 diamonds", fold(shapes::diamonds(682))),
+        // the path over every vertex is kept
+        ("fold 0 1 0 2047", "a band, m = 8,192", fold(shapes::band(2_048, 8_192))),
+        ("fold 9 0 0 0", "a band and 2047>0, m = 8,192", fold(back)),
     ]
 }
 

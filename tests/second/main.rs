@@ -4,6 +4,7 @@
 //!
 //! - table.rs, image.rs: the rules and the numbers
 //! - superbubbles.rs, definition.rs, quick.rs, fold.rs: superbubbles in two ways, and the fold
+//! - walk.rs: one more way to find a cycle, and what it meets
 //! - graphs.rs, shapes.rs, damages.rs: tables and images, good and bad
 //! - limits.rs, worked.rs: cases with answers written by hand
 //! - cases.rs, superbubble_cases.rs, fold_cases.rs, program_cases.rs: all that is asked
@@ -52,6 +53,7 @@ mod superbubble_cases;
 mod superbubbles;
 mod table;
 mod turns;
+mod walk;
 mod worked;
 
 use count::Count;

@@ -52,6 +52,12 @@ pub const OPERATIONS: [(&str, &[u32]); 8] = [
 ];
 
 impl Operation {
+    /// A fold with exact room.
+    pub fn fold_exactly(budget: u32, table: Table) -> Operation {
+        let (n, m) = table.sizes();
+        Fold { budget, room: Room::of(n, m), table }
+    }
+
     pub fn name(&self) -> &'static str {
         match self {
             Show { .. } => "show",

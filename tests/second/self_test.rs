@@ -1,6 +1,6 @@
 //! The second program held to itself and to the rules: its answers to what was written by hand, the
-//! definition against the quick way, folding in turn against folding by the sum, look and load in a
-//! row, and that the cases reach what they must.
+//! definition against the quick way, cycles against a walk, folding in turn against folding by the
+//! sum, look and load in a row, and that the cases reach what they must.
 
 use crate::cases::{self, Case};
 use crate::count::{Count, Fault};
@@ -12,6 +12,7 @@ use crate::parts::difference_of_parts;
 use crate::quick;
 use crate::superbubbles;
 use crate::table::Table;
+use crate::walk;
 
 /// Tries all, and prints how many checks there are of each kind. The answers are those to the cases.
 pub fn check(cases: &[Case], answers: &[Vec<u8>], count: &mut Count) {
@@ -22,9 +23,10 @@ pub fn check(cases: &[Case], answers: &[Vec<u8>], count: &mut Count) {
         parallel::each(&with_answers, check).into_iter().flatten().collect()
     };
     let in_a_row = with_answers.iter().map(|&(case, answer)| (case, &answer[..]));
-    let kinds: [(&str, Vec<(&Case, Fault)>); 4] = [
+    let kinds: [(&str, Vec<(&Case, Fault)>); 5] = [
         ("answers written by hand", each(by_hand)),
         ("answers by the definition and by the quick way", each(by_both_ways)),
+        ("cycles, found or not, by either way and by a walk", each(by_walk)),
         ("tables folded in turn and by the sum", cases::in_turn(cases, &fold)),
         ("looks and loads in a row", in_a_row::checks(in_a_row)),
     ];
@@ -49,6 +51,13 @@ pub fn by_both_ways(case: &Case, answer: &[u8]) -> Option<Fault> {
     let operation = case.operation()?;
     operation.searched().filter(|table| superbubbles::is_small(table))?;
     Some(operation.difference(answer, &operation.answer_by(&quick::WAY)))
+}
+
+/// The same of the answer to a fold, by whether a walk over its table closes a cycle.
+pub fn by_walk(case: &Case, answer: &[u8]) -> Option<Fault> {
+    let (table, is_refused) = case.operation()?.cycle_tested(answer)?;
+    let due = walk::over(table).closed.is_some();
+    Some((is_refused != due).then(|| format!("refused 9: {is_refused}, by a walk: {due}")))
 }
 
 /// Folds by the second program itself.

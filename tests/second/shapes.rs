@@ -1,5 +1,5 @@
-//! Graphs in which superbubbles are to be found, or nearly: every small one, random ones, ones that are
-//! grown, and some of a plain shape and any size.
+//! Graphs in which superbubbles or a cycle are to be found, or nearly: every small one, random
+//! ones, ones that are grown, and some of a plain shape and any size.
 
 use crate::graphs::{self, Edge};
 use crate::random::Random;
@@ -29,8 +29,38 @@ impl Shape {
         for place in 1..self.n {
             names.swap(place, random.between(0, place));
         }
-        let edges = self.edges.iter().map(|&(from, to)| (names[from], names[to])).collect();
+        self.renamed(|vertex| names[vertex])
+    }
+
+    /// The same graph with its vertices numbered from the last to the first.
+    pub fn numbered_backwards(&self) -> Shape {
+        self.renamed(|vertex| self.n - 1 - vertex)
+    }
+
+    fn renamed(&self, name: impl Fn(usize) -> usize) -> Shape {
+        let edges = self.edges.iter().map(|&(from, to)| (name(from), name(to))).collect();
         Shape { n: self.n, edges }
+    }
+
+    /// The same graph with one edge more, which was not there yet.
+    pub fn and(&self, edge: Edge) -> Shape {
+        Shape { n: self.n, edges: [&self.edges[..], &[edge]].concat() }
+    }
+
+    /// A graph without a cycle, and one edge more that closes one: from the end of some path back
+    /// to its beginning. Where the path has no edge, that is a self-loop.
+    pub fn closed(&self, random: &mut Random) -> Shape {
+        let first = random.place(self.n);
+        let mut last = first;
+        for _ in 0..random.one_of(&[0, 1, 2, 5, 1_000]) {
+            let of_row = self.edges.iter().filter(|&&(from, _)| from == last);
+            let row: Vec<usize> = of_row.map(|&(_, to)| to).collect();
+            if row.is_empty() {
+                break;
+            }
+            last = random.one_of(&row);
+        }
+        self.and((last, first))
     }
 
     /// A path from one vertex to another over so many new ones.
@@ -190,6 +220,36 @@ pub fn turned_round(shape: Shape) -> Shape {
     Shape { n: shape.n, edges }
 }
 
+/// From each of the first vertices, so many of them, an edge to every vertex behind it: long rows.
+pub fn wide(n: usize, rows: usize) -> Shape {
+    let row = |from| (from + 1..n).map(move |to| (from, to));
+    Shape { n, edges: (0..rows).flat_map(row).collect() }
+}
+
+/// From each vertex edges to the next ones, m in all: those to the very next, then those that pass
+/// over one, and so on.
+pub fn band(n: usize, m: usize) -> Shape {
+    let of_length = |length| (length..n).map(move |to| (to - length, to));
+    Shape { n, edges: (1..n).flat_map(of_length).take(m).collect() }
+}
+
+/// From 0 to `TOP`, and down to `BOTTOM` vertex by vertex. Each of these also has edges to two
+/// vertices below `BOTTOM` and to two above `TOP`, which lead nowhere: the way down stands in the
+/// middle of its row.
+pub fn backbone() -> Shape {
+    let mut edges = vec![(0, TOP)];
+    for vertex in BOTTOM..=TOP {
+        let below = [1 + vertex % 255, 256 + vertex % 256];
+        let above = [TOP + 1 + vertex % 256, TOP + 257 + vertex % 256];
+        edges.extend(below.into_iter().chain(above).map(|leaf| (vertex, leaf)));
+    }
+    edges.extend((BOTTOM..TOP).map(|vertex| (vertex + 1, vertex)));
+    Shape { n: 2_048, edges }
+}
+
+pub const BOTTOM: usize = 512;
+pub const TOP: usize = 1_535;
+
 /// From 0 to 1 by each other vertex.
 pub fn fan(n: usize) -> Shape {
     let mut fan = Shape { n: 2, edges: Vec::new() };
@@ -214,6 +274,20 @@ pub fn ladder() -> Shape {
     edges.extend((0..34).map(|layer| (vertex(layer, 0), vertex(layer + 2, 0))));
     edges.extend((2_041..2_047).map(|vertex| (vertex, vertex + 1)));
     Shape { n: 2_048, edges }
+}
+
+/// Superbubbles of two arms, so many one after the other.
+pub fn diamonds(times: usize) -> Shape {
+    let mut diamonds = Shape { n: 1, edges: Vec::new() };
+    let mut entrance = 0;
+    for _ in 0..times {
+        let exit = diamonds.n;
+        diamonds.n += 1;
+        diamonds.add_arm(entrance, 1, exit);
+        diamonds.add_arm(entrance, 1, exit);
+        entrance = exit;
+    }
+    diamonds
 }
 
 /// Superbubbles in each other, so many deep, many times one after the other: the exit of each
