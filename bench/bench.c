@@ -2,7 +2,7 @@
 // and their images, and looks how deep the library's calls reach into the stack. The two sides take turns, the fastest
 // of many rounds counts, and each answer is compared: a difference ends the run. With the argument `answers` nothing is
 // timed: it compares the answers on the same tables and on those of answers.c, looks whether the stack stays below
-// 256 KB, and prints the count.
+// 96 KB and that of a fold is the same on each table, to 1 KB, and prints the count.
 #include "bench.h"
 
 struct timespec {
@@ -154,10 +154,16 @@ static void look_load_and_write(void) {
     row("write", gohardim_writes, plain_writes, 1);
 }
 
+static void fold(u32 budget) {
+    asked.budget = budget;
+    gohardim_folds();
+    const char *accepted = budget == 0 ? "fold, budget 0" : "fold";
+    row(ours.number == 9 ? "fold, refused 9" : accepted, gohardim_folds, plain_folds, 1);
+}
+
 static void list_and_fold(void) {
     row("list", gohardim_lists, plain_lists, 1);
-    gohardim_folds();
-    row(ours.number == 9 ? "fold, refused 9" : "fold", gohardim_folds, plain_folds, 1);
+    fold(ALL);
 }
 
 static void heading(void) {
@@ -168,6 +174,7 @@ static void compare(void) {
     make_chain(2048);
     look_load_and_write();
     list_and_fold();
+    fold(0);
     make_cycle(2048);
     list_and_fold();
     make_nested(2040);
@@ -180,6 +187,8 @@ static void compare(void) {
     list_and_fold();
     make_random("random", 2048, 8192, 1);
     list_and_fold();
+    make_layers(2048);
+    fold(ALL);
     make_nested(64);
     look_load_and_write();
     row("judge, each pair", gohardim_judges_each, plain_judges_each, table.n * table.n);
@@ -219,7 +228,7 @@ static void growth(void) {
 
 // ---- stack
 
-enum { STACK = 1 << 20, PAINT = 0xa5, MOST_STACK = 256 * 1024 };
+enum { STACK = 1 << 20, PAINT = 0xa5, MOST_STACK = 96 * 1024, MOST_APART = 1024 };
 static u8 stack[STACK] __attribute__((aligned(64)));
 
 // Calls on a painted stack; the distance from its top to the lowest byte that is not paint any more.
@@ -238,13 +247,13 @@ static usize deepest(void (*call)(void)) {
     return STACK - low;
 }
 
-static void depth(const char *operation, void (*our)(void), void (*their)(void)) {
-    if (!timing) {
-        count(deepest(our) < MOST_STACK, operation, "the stack reaches 256 KB");
-        return;
-    }
-    printf("%-10s %-10s %6lu %6lu %10lu %10lu\n", operation, table.name, table.n, table.m, deepest(our),
-           deepest(their));
+static usize depth(const char *operation, void (*our)(void), void (*their)(void)) { // of the library's call
+    usize bytes = deepest(our);
+    if (!timing)
+        count(bytes < MOST_STACK, operation, "the stack reaches 96 KB");
+    else
+        printf("%-10s %-10s %6lu %6lu %10lu %10lu\n", operation, table.name, table.n, table.m, bytes, deepest(their));
+    return bytes;
 }
 
 static void depths(void) {
@@ -253,18 +262,17 @@ static void depths(void) {
     depth("look", gohardim_looks, plain_looks);
     depth("load", gohardim_loads, plain_loads);
     depth("write", gohardim_writes, plain_writes);
-    make_chain(2048);
-    depth("list", gohardim_lists, plain_lists);
-    depth("judge", gohardim_judges, plain_judges);
-    depth("fold", gohardim_folds, plain_folds);
-    make_nested(2040);
-    depth("list", gohardim_lists, plain_lists);
-    depth("judge", gohardim_judges, plain_judges);
-    depth("fold", gohardim_folds, plain_folds);
-    make_comb(2048);
-    depth("list", gohardim_lists, plain_lists);
-    depth("judge", gohardim_judges, plain_judges);
-    depth("fold", gohardim_folds, plain_folds);
+    static void (*const make_full[])(usize) = {make_chain, make_nested, make_comb};
+    usize least = STACK, most = 0; // of the folds
+    for (usize k = 0; k < sizeof make_full / sizeof *make_full; k++) {
+        make_full[k](make_full[k] == make_nested ? 2040 : 2048);
+        depth("list", gohardim_lists, plain_lists);
+        depth("judge", gohardim_judges, plain_judges);
+        usize bytes = depth("fold", gohardim_folds, plain_folds);
+        if (bytes < least) least = bytes;
+        if (bytes > most) most = bytes;
+    }
+    if (!timing) count(most - least < MOST_APART, "fold", "the stack differs from table to table by 1 KB");
 }
 
 int main(int arguments, char **argument) {

@@ -250,21 +250,42 @@ u32 plain_judge(const u32 *starts, usize starts_len, const u32 *targets, usize m
 
 // ---- fold
 
-// Whether a cycle is reached from v: one that closes on a vertex whose visit has not ended.
-static _Bool closes(const u32 *starts, const u32 *targets, u8 *colours, u32 v) {
-    if (colours[v] != 0) return colours[v] == 1;
-    colours[v] = 1;
-    for (usize k = starts[v]; k < starts[v + 1]; k++)
-        if (closes(starts, targets, colours, targets[k])) return 1;
-    colours[v] = 2;
-    return 0;
+// Visits a vertex and, depth first, what it leads to; for each vertex on the path but the last `places` has the place in
+// its row. Answers whether a vertex on the path was met again.
+static _Bool closes(const u32 *starts, const u32 *targets, u8 *colours, u16 *path, u16 *places, u32 root) {
+    if (colours[root] != 0) return 0;
+    colours[root] = 1;
+    path[0] = root;
+    usize depth = 0, v = root, place = 0;
+    for (;;) {
+        const u32 *row = targets + starts[v];
+        usize length = starts[v + 1] - starts[v];
+        while (place < length && colours[row[place]] == 2) place++;
+        if (place < length) {
+            u32 next = row[place];
+            if (colours[next] == 1) return 1;
+            colours[next] = 1;
+            places[depth] = place;
+            depth++;
+            path[depth] = next;
+            v = next;
+            place = 0;
+        } else {
+            colours[v] = 2;
+            if (depth == 0) return 0;
+            depth--;
+            v = path[depth];
+            place = places[depth];
+        }
+    }
 }
 
 static _Bool has_cycle(const u32 *starts, const u32 *targets, usize n) {
     u8 colours[MOST];
+    u16 path[MOST], places[MOST];
     memset(colours, 0, n);
     for (u32 v = 0; v < n; v++)
-        if (closes(starts, targets, colours, v)) return 1;
+        if (closes(starts, targets, colours, path, places, v)) return 1;
     return 0;
 }
 

@@ -3,6 +3,7 @@
 #include "gohardim.h"
 
 typedef gohardim_u8 u8;
+typedef unsigned short u16;
 typedef gohardim_u32 u32;
 typedef gohardim_u64 u64;
 typedef gohardim_size usize;

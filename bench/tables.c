@@ -74,6 +74,14 @@ void make_comb(usize n) {
     make("comb", 2 * k + 1, 1000);
 }
 
+// Layers of two, each vertex with an edge to every one of the next two layers: no superbubble, since no vertex is alone in
+// its layer, and paths through all of them.
+void make_layers(usize n) {
+    for (u32 v = 0; v < n; v++)
+        for (u32 to = v - v % 2 + 2; to < v - v % 2 + 6 && to < n; to++) edge(v, to);
+    make("layers", n, 1000);
+}
+
 // Puts `inner` fresh vertices between s and t: two or three arms side by side, each a row of vertices with more of the
 // same between two of them.
 static u32 fresh;

@@ -71,7 +71,7 @@
 // its length, and not null even where the length is 0; and what is stored to, the handed-out numbers among it, overlaps
 // nothing else that is lent. What a handed-out number holds before a call does not matter.
 //
-// A call takes less than 256 KB of stack, allocates nothing, and keeps nothing for the next one.
+// A call takes less than 96 KB of stack, whatever the table, allocates nothing, and keeps nothing for the next one.
 #ifndef GOHARDIM_H
 #define GOHARDIM_H
 

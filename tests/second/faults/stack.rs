@@ -13,7 +13,7 @@ use std::process::Output;
 /// The programs' stack in KB.
 const LOOK: u32 = 128;
 const READERS: u32 = 256;
-const FOLD: u32 = 640;
+const FOLD: u32 = 448;
 
 /// With so little a program does not make do: that it fails shows that the limit is felt.
 const TOO_LITTLE: u32 = 128;
