@@ -44,8 +44,8 @@ pub record OnWay (starts targets before : List ℕ) (from to root : ℕ) (colour
   pub outside : (u : ℕ) → u < vertices starts → (getD before u 0 ≡ 0) ⊎ (2 ≤ getD before u 0)
   pub first : getD path 0 0 ≡ root
   pub last : getD path depth 0 ≡ v
-  pub pending : RowPassed starts targets before from to v place
-  pub waiting : (i : ℕ) → i < depth → RowPassed starts targets before from to (getD path i 0) (getD places i 0)
+  pub last-row : RowPassed starts targets before from to v place
+  pub other-rows : (i : ℕ) → i < depth → RowPassed starts targets before from to (getD path i 0) (getD places i 0)
   pub joined : (i : ℕ) → i < depth → Followed starts targets before from to (getD path i 0) (getD path (i + 1) 0)
   pub on-path : (u : ℕ) → u < vertices starts → getD colours u 0 ≡ 1 → (i : ℕ) × (i ≤ depth) × (getD path i 0 ≡ u)
   pub stays : (u : ℕ) → 2 ≤ getD before u 0 → 2 ≤ getD colours u 0
@@ -81,8 +81,8 @@ walk-begins {starts} {colours = colours} {path} {root = root} can new =
       outside = can .prepared .none-on-path;
       first = top;
       last = top;
-      pending = record { vertex = can .vertex; inside = new; within = omega arith; passed = λ k l. absurd (omega (arith, l)) };
-      waiting = λ i l. absurd (omega (arith, l));
+      last-row = record { vertex = can .vertex; inside = new; within = omega arith; passed = λ k l. absurd (omega (arith, l)) };
+      other-rows = λ i l. absurd (omega (arith, l));
       joined = λ i l. absurd (omega (arith, l));
       on-path = λ u l q. elim (ℕ-discrete u root) [
         | yes e ↦ (0, omega arith, top ∙ sym e)
@@ -104,13 +104,13 @@ module _ {starts targets before : List ℕ} {from to root : ℕ} {colours path p
     (at : OnWay starts targets before from to root colours path places depth v place) where
   -- v has a colour
   pub coloured : v < length colours
-  coloured = omega (arith, at .colours-room, at .pending .vertex)
+  coloured = omega (arith, at .colours-room, at .last-row .vertex)
 
   -- its row has at most 8,192 places
   pub row-most : length (row starts targets v) ≤ edge-limit
   row-most =
-      let l = row-lies starts targets (at .well-formed .starts-fit) v (at .pending .vertex) in
-      omega (arith, l .within, next-start (at .well-formed) v (at .pending .vertex), at .well-formed .most-edges)
+      let l = row-lies starts targets (at .well-formed .starts-fit) v (at .last-row .vertex) in
+      omega (arith, l .within, next-start (at .well-formed) v (at .last-row .vertex), at .well-formed .most-edges)
 
   -- the places of the row of v up to the next open one are passed
   pub goes-on : {over r : ℕ} → PassedOver v from to (vertices starts) over → NextOpen (row starts targets v) colours place over r
@@ -125,12 +125,12 @@ module _ {starts targets before : List ℕ} {from to root : ℕ} {colours path p
         outside = at .outside;
         first = at .first;
         last = at .last;
-        pending = record {
-          vertex = at .pending .vertex;
-          inside = at .pending .inside;
+        last-row = record {
+          vertex = at .last-row .vertex;
+          inside = at .last-row .inside;
           within = next .within;
           passed = λ k l e. elim (decLt k place) [
-            | yes h ↦ at .pending .passed k h e
+            | yes h ↦ at .last-row .passed k h e
             | no h ↦ ⊎-elim (λ d. at .done-safe (getD (row starts targets v) k 0) (below k (omega (arith, l, next .within))) (e .enters) d)
                 (λ q. elim (ℕ-discrete v from) [
                   | yes p ↦ absurd (e .other p (q ∙ po .here p))
@@ -139,7 +139,7 @@ module _ {starts targets before : List ℕ} {from to root : ℕ} {colours path p
                 (next .passed k (omega arith) l)
           ];
         };
-        waiting = at .waiting;
+        other-rows = at .other-rows;
         joined = at .joined;
         on-path = at .on-path;
         stays = at .stays;
@@ -151,7 +151,7 @@ module _ {starts targets before : List ℕ} {from to root : ℕ} {colours path p
   row-passed : length (row starts targets v) ≤ place → Safe (Followed starts targets before from to) v
   row-passed l =
       safe {v = v} (λ w e. let i = e .edge .listed in
-      rw (i .stands) at (at .pending .passed (i .place) (omega (arith, l, i .inside)) (rw (i .stands) e)))
+      rw (i .stands) at (at .last-row .passed (i .place) (omega (arith, l, i .inside)) (rw (i .stands) e)))
 
   -- the vertex at an open place is a vertex of the table
   pub open-vertex : place < length (row starts targets v) → getD (row starts targets v) place 0 < vertices starts
@@ -163,8 +163,8 @@ module _ {starts targets before : List ℕ} {from to root : ℕ} {colours path p
   follows po next l =
       let w = getD (row starts targets v) place 0 in
       record {
-        edge = record { vertex = at .pending .vertex; listed = record { place = place; inside = l; stands = refl } };
-        leaves = at .pending .inside;
+        edge = record { vertex = at .last-row .vertex; listed = record { place = place; inside = l; stands = refl } };
+        leaves = at .last-row .inside;
         enters = ⊎-elim (λ z. z) (λ h. absurd (omega (arith, next .not-done l, at .stays w h))) (at .outside w (open-vertex l));
         other = λ p q. next .not-over l (q ∙ sym (po .here p));
       }
@@ -194,10 +194,10 @@ module _ {starts targets before : List ℕ} {from to root : ℕ} {colours path p
         outside = at .outside;
         first = other 0 (omega arith) ∙ at .first;
         last = top;
-        pending = record { vertex = l; inside = e .enters; within = omega arith; passed = λ k b. absurd (omega (arith, b)) };
-        waiting = λ i b. elim (ℕ-discrete i depth) [
-          | yes z ↦ rw (z, other depth (omega arith), at .last, getD-set-same places depth place 0 (omega (arith, at .fits, at .places-room))) (at .pending)
-          | no n ↦ rw (other i (omega (arith, b)), getD-set-other places depth i place 0 n) (at .waiting i (omega (arith, b)))
+        last-row = record { vertex = l; inside = e .enters; within = omega arith; passed = λ k b. absurd (omega (arith, b)) };
+        other-rows = λ i b. elim (ℕ-discrete i depth) [
+          | yes z ↦ rw (z, other depth (omega arith), at .last, getD-set-same places depth place 0 (omega (arith, at .fits, at .places-room))) (at .last-row)
+          | no n ↦ rw (other i (omega (arith, b)), getD-set-other places depth i place 0 n) (at .other-rows i (omega (arith, b)))
         ];
         joined = λ i b. elim (ℕ-discrete i depth) [
           | yes z ↦ rw (z, other depth (omega arith), at .last, top) e
@@ -256,8 +256,8 @@ module _ {starts targets before : List ℕ} {from to root : ℕ} {colours path p
         outside = at .outside;
         first = at .first;
         last = refl;
-        pending = at .waiting (depth - 1) (omega arith);
-        waiting = λ i b. at .waiting i (omega (arith, b));
+        last-row = at .other-rows (depth - 1) (omega arith);
+        other-rows = λ i b. at .other-rows i (omega (arith, b));
         joined = λ i b. at .joined i (omega (arith, b));
         on-path = λ u b q. let (i, c, stands) = still-on-path u b q in (i, omega (arith, c), stands);
         stays = done-stays;

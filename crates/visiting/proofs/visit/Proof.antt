@@ -137,7 +137,7 @@ loop-holds c = (refl, refl, refl, rw (unmarked (entry c .args .colours .now) (en
 
 row-requires : tie.Need-row-requires Inv-loop μ-loop
 row-requires c κs = let at = c .loop .inv .3 in
-    row-lies _ _ (at .well-formed .starts-fit) (c .loop .v) (at .pending .vertex)
+    row-lies _ _ (at .well-formed .starts-fit) (c .loop .v) (at .last-row .vertex)
 
 passed-over-requires : tie.Need-passed-over-requires Inv-loop μ-loop
 passed-over-requires c κs = tt
@@ -146,7 +146,7 @@ next-open-requires : tie.Need-next-open-requires Inv-loop μ-loop
 next-open-requires c κs = let at = c .before .before .before .loop .inv .3 in
     let st = entry (c .before .before .before .before) in
     rw (c .before .before .row .ensures)
-    (λ k l. omega (arith, row-below (st .args .starts .now) (st .args .targets .now) (at .well-formed .targets-below) (c .before .before .before .loop .v) k l, at .colours-room), at .pending .within)
+    (λ k l. omega (arith, row-below (st .args .starts .now) (st .args .targets .now) (at .well-formed .targets-below) (c .before .before .before .loop .v) k l, at .colours-room), at .last-row .within)
 
 mul-next : tie.Need-mul-next Inv-loop μ-loop
 mul-next c = omega (arith, few-places (c .before), c .if2 .taken)
@@ -251,7 +251,7 @@ slice-read-v c = let at = moved (c .before .before .before) in
     omega (arith, at .fits, at .path-room)
 
 cast-v : tie.Need-cast-v Inv-loop μ-loop
-cast-v c = omega (arith, come-back (c .before) .pending .vertex, come-back (c .before) .well-formed .most-vertices)
+cast-v c = omega (arith, come-back (c .before) .last-row .vertex, come-back (c .before) .well-formed .most-vertices)
 
 mul-place : tie.Need-mul-place Inv-loop μ-loop
 mul-place c = let at = moved (c .before .before .before) in
@@ -263,7 +263,7 @@ slice-read-place c = let at = moved (in-else2 c .before) in
 
 cast-place : tie.Need-cast-place Inv-loop μ-loop
 cast-place c = let at = come-back (c .before .before) in
-    omega (arith, row-most at, at .pending .within)
+    omega (arith, row-most at, at .last-row .within)
 
 loop-less-2 : tie.Need-loop-less-2 Inv-loop μ-loop
 loop-less-2 c = let d = in-else2 c .before in
