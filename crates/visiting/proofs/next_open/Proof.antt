@@ -41,7 +41,7 @@ returns c = let at = c .before .before .before .before .before .loop in
       reached = at .inv .0;
       within = at .inv .1;
       passed = at .inv .2;
-      not-done = λ l. c .before .if1 .taken;
+      not-done = λ l. omega (arith, c .before .if1 .taken);
       not-over = λ l. c .if2 .taken;
     }
 
