@@ -1,12 +1,13 @@
 //! The definition of the rules (docs/RULES.md, The definition), word by word, for tables of few
 //! vertices: sets that are closed under one more edge, every condition tried on every pair, every path
-//! laid beside every other. There is no search here, and nothing quick.
+//! laid beside every other, reads dealt one by one. There is no search here, and nothing quick.
 
+use crate::sharing;
 use crate::superbubbles::{Superbubble, Way};
 use crate::table::Table;
 use std::cmp::Reverse;
 
-pub const WAY: Way = Way { superbubbles, judge, kept, has_cycle };
+pub const WAY: Way = Way { superbubbles, judge, kept, share: sharing::dealt, has_cycle };
 
 /// A set of vertices: for each whether it belongs to it.
 type Set = Vec<bool>;

@@ -1,9 +1,10 @@
 //! The fold of the rules (docs/RULES.md, Fold), over the table handed in: its candidates, its kept
 //! paths, its counts.
 
-use crate::graphs;
+use crate::graphs::{self, Edge};
 use crate::parts::Part;
-use crate::superbubbles::{candidates, Way};
+use crate::sharing::Share;
+use crate::superbubbles::{candidates, Superbubble, Way};
 use crate::table::Table;
 use std::collections::BTreeSet;
 
@@ -24,31 +25,73 @@ impl Folded {
     }
 }
 
-/// Folds a well-formed table without a cycle.
-pub fn fold(way: &Way, table: &Table, budget: u32) -> Folded {
-    let mut chosen = candidates(way, table);
-    chosen.truncate(budget as usize);
-    let mut edges = table.edges();
-    let mut counts = table.counts.clone();
-    for superbubble in &chosen {
-        let kept = (way.kept)(table, superbubble);
-        let steps: BTreeSet<(usize, usize)> = kept.windows(2).map(|two| (two[0], two[1])).collect();
-        let inside = |vertex| superbubble.all.contains(&vertex);
-        edges.retain(|&(from, to)| !(inside(from) && inside(to)) || steps.contains(&(from, to)));
+/// A candidate that is folded.
+pub struct Chosen {
+    superbubble: Superbubble,
+    /// The path that is kept, from the entrance to the exit.
+    kept: Vec<usize>,
+    /// The interior vertices that are not on it.
+    dropped: Vec<usize>,
+    /// The sum of their counts.
+    pub reads: u64,
+}
 
+impl Chosen {
+    fn of(way: &Way, table: &Table, superbubble: Superbubble) -> Chosen {
+        let kept = (way.kept)(table, &superbubble);
         let on_path: BTreeSet<usize> = kept.iter().copied().collect();
-        let mut moved = 0;
-        for &dropped in superbubble.all.difference(&on_path) {
-            moved += table.counts[dropped];
-            counts[dropped] = 0;
-        }
+        let dropped: Vec<usize> = superbubble.all.difference(&on_path).copied().collect();
+        let reads = dropped.iter().map(|&vertex| table.counts[vertex]).sum();
+        let chosen = Chosen { superbubble, kept, dropped, reads };
         assert!(
-            kept.len() > 2 || moved == 0,
+            !chosen.inner().is_empty() || reads == 0,
             "a kept bare edge means that every dropped count is 0"
         );
-        counts[kept[1]] += moved;
+        chosen
     }
-    let table = graphs::of_edges(&edges, counts);
+
+    /// The inner vertices of the kept path, in path order.
+    pub fn inner(&self) -> &[usize] {
+        &self.kept[1..self.kept.len() - 1]
+    }
+
+    /// Removes the edges inside U along which the kept path does not go.
+    fn remove_from(&self, edges: &mut Vec<Edge>) {
+        let steps: BTreeSet<Edge> = self.kept.windows(2).map(|two| (two[0], two[1])).collect();
+        let inside = |vertex| self.superbubble.all.contains(&vertex);
+        edges.retain(|&(from, to)| !(inside(from) && inside(to)) || steps.contains(&(from, to)));
+    }
+}
+
+/// Folds a well-formed table without a cycle.
+pub fn fold(way: &Way, table: &Table, budget: u32) -> Folded {
+    let chosen = chosen(way, table, budget);
+    let mut edges = table.edges();
+    chosen.iter().for_each(|one| one.remove_from(&mut edges));
+    let table = graphs::of_edges(&edges, counts(table, &chosen, way.share));
     let left = candidates(way, &table).len();
     Folded { table, folded: chosen.len(), left }
+}
+
+/// The candidates that are folded.
+pub fn chosen(way: &Way, table: &Table, budget: u32) -> Vec<Chosen> {
+    let candidates = candidates(way, table).into_iter().take(budget as usize);
+    candidates.map(|superbubble| Chosen::of(way, table, superbubble)).collect()
+}
+
+/// The counts after a fold of these, where dropped reads are shared by this rule. A kept bare edge takes
+/// none.
+pub fn counts(table: &Table, chosen: &[Chosen], share: Share) -> Vec<u64> {
+    let mut counts = table.counts.clone();
+    for one in chosen {
+        for &vertex in &one.dropped {
+            counts[vertex] = 0;
+        }
+        let inner = one.inner().len();
+        let portions = if inner > 0 { share(one.reads, inner) } else { Vec::new() };
+        for (&vertex, portion) in one.kept.iter().zip(portions) {
+            counts[vertex] += portion;
+        }
+    }
+    counts
 }

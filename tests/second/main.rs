@@ -3,7 +3,8 @@
 //! builds and runs it.
 //!
 //! - table.rs, image.rs: the rules and the numbers
-//! - superbubbles.rs, definition.rs, quick.rs, fold.rs: superbubbles in two ways, and the fold
+//! - superbubbles.rs, definition.rs, quick.rs: superbubbles in two ways
+//! - fold.rs, sharing.rs: the fold, and how it shares dropped reads
 //! - walk.rs: one more way to find a cycle, and what it meets
 //! - graphs.rs, shapes.rs, damages.rs: tables and images, good and bad
 //! - limits.rs, worked.rs: cases with answers written by hand
@@ -48,6 +49,7 @@ mod random;
 mod runs;
 mod self_test;
 mod shapes;
+mod sharing;
 mod sheet;
 mod superbubble_cases;
 mod superbubbles;

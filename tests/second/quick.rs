@@ -7,11 +7,12 @@
 //! s to t goes in a circle or loses itself, and F lies in B; the same turned round, and B lies in F; and
 //! a cycle inside U would have to pass an edge t to s. (The self-test holds it to the definition.)
 
+use crate::sharing;
 use crate::superbubbles::{Superbubble, Way};
 use crate::table::Table;
 use std::collections::{BTreeSet, VecDeque};
 
-pub const WAY: Way = Way { superbubbles, judge, kept, has_cycle };
+pub const WAY: Way = Way { superbubbles, judge, kept, share: sharing::divided, has_cycle };
 
 /// For each vertex some of the others: its successors, or its predecessors.
 type Neighbours = Vec<Vec<usize>>;
@@ -116,11 +117,14 @@ fn between(s: usize, t: usize, successors: &Neighbours) -> BTreeSet<usize> {
 /// successor, the smallest of those that are as good.
 fn kept(table: &Table, superbubble: &Superbubble) -> Vec<usize> {
     let exit = superbubble.exit;
-    let successors = successors(table);
+    // of U alone, up to the exit
+    let mut successors = vec![Vec::new(); table.starts.len() - 1];
+    for &vertex in superbubble.all.iter().filter(|&&vertex| vertex != exit) {
+        successors[vertex] = table.row(vertex).iter().map(|&next| next as usize).collect();
+    }
     let mut best = vec![0; successors.len()];
     let mut next = vec![exit; successors.len()];
-    let order = bound_for(exit, &successors, &turned_round(&successors));
-    for &vertex in order[1..].iter().filter(|vertex| superbubble.all.contains(vertex)) {
+    for &vertex in &bound_for(exit, &successors, &turned_round(&successors))[1..] {
         let by = |on: usize| if on == exit { 0 } else { table.counts[on] + best[on] };
         let most = successors[vertex].iter().map(|&on| by(on)).max().unwrap();
         next[vertex] = *successors[vertex].iter().find(|&&on| by(on) == most).unwrap();

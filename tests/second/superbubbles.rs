@@ -3,6 +3,7 @@
 
 use crate::definition;
 use crate::quick;
+use crate::sharing::Share;
 use crate::table::Table;
 use std::collections::BTreeSet;
 
@@ -40,6 +41,8 @@ pub struct Way {
     pub judge: fn(&Table, usize, usize) -> Option<Superbubble>,
     /// The path that folding keeps, from the entrance to the exit.
     pub kept: fn(&Table, &Superbubble) -> Vec<usize>,
+    /// What each vertex of the kept path gets of the dropped reads.
+    pub share: Share,
     /// Whether there is a directed cycle; edges that lead to no vertex are passed over.
     pub has_cycle: fn(&Table) -> bool,
 }

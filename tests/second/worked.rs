@@ -1,13 +1,13 @@
 //! What the rules work out themselves about superbubbles (docs/RULES.md, Twelve graphs and Worked
 //! folds), with answers written by hand: the twelve lists, pairs of the twelve graphs, the folds of J, K
-//! and L, and a case for each error that an analyst has met.
+//! and L, folds that share reads, and a case for each error that an analyst has met.
 
 use crate::answers;
 use crate::fold::Folded;
 use crate::graphs::{self, lettered, Edge, TWELVE};
 use crate::image::Room;
 use crate::operations::Operation;
-use crate::table::Table;
+use crate::table::{Table, LARGEST_SUM};
 
 pub struct Worked {
     pub name: String,
@@ -19,6 +19,7 @@ pub fn all() -> Vec<Worked> {
     let mut all = twelve_lists();
     all.extend(pairs());
     all.extend(folds());
+    all.extend(shares());
     all.extend(errors());
     all
 }
@@ -97,7 +98,6 @@ fn folds() -> Vec<Worked> {
     // and here one read on the arm decides against it
     let arm = graphs::of_edges(&[(0, 1), (0, 2), (2, 1)], vec![3, 3, 1]);
     let arm_folded = folded(1, 0, &[(0, 2), (2, 1)], &[3, 3, 1]);
-    let unfolded = |table: &Table, left| Folded { table: table.clone(), folded: 0, left };
     vec![
         fold("J, budget 1", &j, 1, &j_folded),
         fold("J, budget 4,294,967,295", &j, u32::MAX, &j_folded),
@@ -116,9 +116,60 @@ fn folds() -> Vec<Worked> {
     ]
 }
 
+/// Folds by which several inner vertices get reads.
+fn shares() -> Vec<Worked> {
+    let mut shares = two_arms(
+        "3 reads over 1 and 2: 2 and 1",
+        [&[0, 1, 2, 4], &[0, 3, 4]],
+        &[5, 4, 3, 3, 5],
+        &[5, 6, 4, 0, 5],
+    );
+    shares.extend(two_arms(
+        "8 reads over 4, 3 and 1: 3, 3 and 2",
+        [&[0, 4, 3, 1, 5], &[0, 2, 5]],
+        &[9, 4, 8, 3, 2, 9],
+        &[9, 6, 0, 6, 5, 9],
+    ));
+    shares.extend(two_arms(
+        "2 reads over 5, 4, 2 and 1: 1, 1, 0 and 0",
+        [&[0, 5, 4, 2, 1, 6], &[0, 3, 6]],
+        &[1, 0, 3, 2, 0, 0, 1],
+        &[1, 0, 3, 0, 1, 1, 1],
+    ));
+    let largest_sum = [0, 549_755_813_888, 0, 549_755_813_887, 0];
+    assert_eq!(largest_sum.iter().sum::<u64>(), LARGEST_SUM);
+    shares.extend(two_arms(
+        "the largest sum, 2^39 - 1 reads over 1 and 2: 2^38 and 2^38 - 1",
+        [&[0, 1, 2, 4], &[0, 3, 4]],
+        &largest_sum,
+        &[0, 824_633_720_832, 274_877_906_943, 0, 0],
+    ));
+    shares
+}
+
+/// Folds by hand of a superbubble of two arms, of which the first is kept: the paths, and the counts
+/// before and after. It is folded by several budgets, and then once more.
+fn two_arms(name: &str, paths: [&[usize]; 2], before: &[u64], after: &[u64]) -> Vec<Worked> {
+    let edges = paths.map(|path| path.windows(2).map(|two| (two[0], two[1])).collect::<Vec<_>>());
+    let table = graphs::of_edges(&edges.concat(), before.to_vec());
+    let shared = folded(1, 0, &edges[0], after);
+    let again = unfolded(&shared.table, 0);
+    vec![
+        fold(&format!("{name}, budget 1"), &table, 1, &shared),
+        fold(&format!("{name}, budget 4,294,967,295"), &table, u32::MAX, &shared),
+        fold(&format!("{name}, budget 0"), &table, 0, &unfolded(&table, 1)),
+        fold(&format!("{name}, once more"), &shared.table, 1, &again),
+    ]
+}
+
 /// A fold by hand: how many were folded, how many are left, the edges and the counts.
 fn folded(folded: usize, left: usize, edges: &[Edge], counts: &[u64]) -> Folded {
     Folded { table: graphs::of_edges(edges, counts.to_vec()), folded, left }
+}
+
+/// A fold that gives back its input.
+fn unfolded(table: &Table, left: usize) -> Folded {
+    Folded { table: table.clone(), folded: 0, left }
 }
 
 fn fold(name: &str, table: &Table, budget: u32, folded: &Folded) -> Worked {
@@ -144,7 +195,8 @@ fn errors() -> Vec<Worked> {
     let inside_out = "error: folding from the inside out";
     let beside = "error: the bare edge left beside a kept arm";
     let outside = "error: edges that come in from outside forgotten";
-    vec![
+    let heap = "error: all dropped reads heaped on one vertex";
+    let mut errors = vec![
         list(apart, &i, &[(0, 1), (1, 2)]),
         judge(apart, &i, (2, 0), None),
         list(back, &h, &[(3, 0)]),
@@ -156,5 +208,9 @@ fn errors() -> Vec<Worked> {
         judge(outside, &into_an_arm, (0, 3), None),
         list(outside, &into_the_exit, &[]),
         judge(outside, &into_the_exit, (0, 3), None),
-    ]
+    ];
+    // 9 reads over 2 and 1: 5 and 4
+    let paths: [&[usize]; 2] = [&[0, 2, 1, 4], &[0, 3, 4]];
+    errors.extend(two_arms(heap, paths, &[2, 6, 4, 9, 2], &[2, 10, 9, 0, 2]));
+    errors
 }
