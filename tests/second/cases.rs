@@ -126,6 +126,7 @@ pub fn all(seed: u64) -> Vec<Case> {
     cases.superbubbles();
     cases.folds();
     cases.cycles();
+    cases.shares();
     cases.programs();
     cases.folds_in_turn();
     cases.list
@@ -136,8 +137,8 @@ pub fn answers(cases: &[Case]) -> Vec<Vec<u8>> {
     parallel::each(cases, Case::answer)
 }
 
-/// The cases so far. The makers stand here and in superbubble_cases.rs, fold_cases.rs and
-/// program_cases.rs.
+/// The cases so far. The makers stand here and in superbubble_cases.rs, fold_cases.rs, sharing_cases.rs
+/// and program_cases.rs.
 pub struct Cases {
     pub seed: u64,
     list: Vec<Case>,

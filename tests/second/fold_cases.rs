@@ -8,8 +8,11 @@ use crate::damages::{self, OF_TABLE};
 use crate::graphs::{self, Edge};
 use crate::image::Room;
 use crate::operations::Operation;
+use crate::quick;
 use crate::random::Random;
-use crate::shapes::{self, Shape, BOTTOM, TOP};
+use crate::shapes::{self, Numbering, Shape, BOTTOM, NUMBERINGS, TOP};
+use crate::sharing_cases;
+use crate::superbubbles;
 use crate::table::Table;
 use crate::turns::Turns;
 
@@ -134,21 +137,32 @@ impl Cases {
 
     /// A graph without a cycle, as it is and with one edge more, which closes one or does not.
     fn with_one_more(&mut self, name: &str, shape: Shape, closing: &[Edge], others: &[Edge]) {
-        self.in_each_numbering(name, &shape, NO_CYCLE);
+        self.numbered(name, &shape, NO_CYCLE);
         for (edges, begin) in [(closing, CYCLE), (others, NO_CYCLE)] {
             for &(from, to) in edges {
                 let name = format!("{name}, and {from}>{to}");
-                self.in_each_numbering(&name, &shape.and((from, to)), begin);
+                self.numbered(&name, &shape.and((from, to)), begin);
             }
         }
     }
 
     /// A graph for which it is known how the answer begins.
-    fn in_each_numbering(&mut self, name: &str, shape: &Shape, begin: &str) {
+    fn numbered(&mut self, name: &str, shape: &Shape, begin: &str) {
+        self.in_each_numbering(name, begin, |random, number| {
+            let table = shape.renamed(&number(shape.n, random)).table(random);
+            Operation::fold_exactly(budget(random), table)
+        });
+    }
+
+    /// A fold for each numbering, where it is known how the answer begins.
+    pub fn in_each_numbering(
+        &mut self,
+        name: &str,
+        begin: &str,
+        make: impl Fn(&mut Random, Numbering) -> Operation,
+    ) {
         for (numbered, number) in NUMBERINGS {
-            self.fold_exactly(&format!("{name}, {numbered}"), |random| {
-                number(shape, random).table(random)
-            });
+            self.add(format!("{name}, {numbered}"), |random| make(random, number));
             self.begins(begin);
         }
     }
@@ -169,14 +183,17 @@ impl Cases {
         ];
         let large = LARGE.map(|(name, make)| (1, name, make));
         for (many, name, make) in small.into_iter().chain(large) {
-            (0..many).for_each(|_| self.turns(name, make));
+            (0..many).for_each(|_| self.turns(name, |random| make(random).table(random)));
+        }
+        for _ in 0..300 {
+            self.turns("superbubbles in a row with long arms", sharing_cases::row_with_long_arms);
         }
     }
 
-    fn turns(&mut self, name: &str, make: Make) {
+    fn turns(&mut self, name: &str, make: impl Fn(&mut Random) -> Table) {
         let random = &mut self.next_random();
-        let table = make(random).table(random);
-        let budgets = [(); 3].map(|_| random.one_of(&[0, 1, 1, 2, 3, 40, 1_000_000_000]));
+        let table = make(random);
+        let budgets = budgets(random, &table);
         self.add_turns(name, Turns { table, budgets, further: budget(random) });
     }
 }
@@ -195,12 +212,6 @@ const LARGE: [(&str, Make); 6] = [
 /// How the answer to a fold begins.
 const NO_CYCLE: &str = "fold 0 ";
 const CYCLE: &str = "fold 9 0 0 0\n";
-
-const NUMBERINGS: [(&str, fn(&Shape, &mut Random) -> Shape); 3] = [
-    ("as it is", |shape, _| shape.clone()),
-    ("numbered backwards", |shape, _| shape.numbered_backwards()),
-    ("numbered at random", Shape::relabelled),
-];
 
 fn acyclic_small(random: &mut Random) -> Shape {
     let n = random.between(3, 8);
@@ -223,4 +234,20 @@ fn bubbly_large(random: &mut Random) -> Shape {
 
 fn budget(random: &mut Random) -> u32 {
     random.one_of(&[0, 1, 1, 1, 2, 2, 3, 10, 1_000, 65_536, 1 << 31, u32::MAX])
+}
+
+/// One to six budgets to fold a table in turn: any ones, or the parts of a sum, which is near the number
+/// of candidates or as large as can be.
+fn budgets(random: &mut Random, table: &Table) -> Vec<u32> {
+    if random.between(0, 2) == 0 {
+        // four of the largest still come to a budget
+        let many = random.between(1, 4);
+        let any = |_| random.one_of(&[0, 1, 1, 2, 3, 40, 1_000_000_000]);
+        return (0..many).map(any).collect();
+    }
+    let candidates = superbubbles::candidates(&quick::WAY, table).len();
+    let near = random.between(0, candidates + 2);
+    let sum = random.one_of(&[near, near, near, candidates, u32::MAX as usize]);
+    let parts = random.between(1, 6);
+    random.parts(sum as u64, parts).into_iter().map(|part| part as u32).collect()
 }

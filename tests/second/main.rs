@@ -8,7 +8,7 @@
 //! - walk.rs: one more way to find a cycle, and what it meets
 //! - graphs.rs, shapes.rs, damages.rs: tables and images, good and bad
 //! - limits.rs, worked.rs: cases with answers written by hand
-//! - cases.rs, superbubble_cases.rs, fold_cases.rs, program_cases.rs: all that is asked
+//! - cases.rs, superbubble_cases.rs, fold_cases.rs, sharing_cases.rs, program_cases.rs: all that is asked
 //! - operations.rs, answers.rs, runs.rs: how it is asked, and the answers that are due
 //! - turns.rs, in_a_row.rs: answers that are held to each other
 //! - parts.rs: questions and answers taken apart, and where two answers differ first
@@ -50,6 +50,7 @@ mod runs;
 mod self_test;
 mod shapes;
 mod sharing;
+mod sharing_cases;
 mod sheet;
 mod superbubble_cases;
 mod superbubbles;

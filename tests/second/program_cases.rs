@@ -13,6 +13,7 @@ use crate::operations::LONGEST_STREAM;
 use crate::random::Random;
 use crate::runs::{Due, Files, ProgramRun};
 use crate::shapes;
+use crate::sharing_cases;
 
 /// The longest word that the system hands to a program.
 const LONGEST_WORD: usize = 131_071;
@@ -218,6 +219,8 @@ impl Cases {
             let random = &mut self.next_random();
             let table = shapes::bubbly_acyclic(random, 60).table(random);
             self.add_run("a table rich in superbubbles", over(image::of_table(&table)));
+            let table = sharing_cases::row_with_long_arms(&mut self.next_random());
+            self.add_run("superbubbles in a row with long arms", over(image::of_table(&table)));
             let stream = damaged_image(&mut self.next_random());
             self.add_run("a damaged image beside an old file", over(stream));
         }

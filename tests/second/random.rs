@@ -29,6 +29,14 @@ impl Random {
         self.between(0, length - 1)
     }
 
+    /// A number as the sum of so many parts, at least one, any of which may be 0.
+    pub fn parts(&mut self, sum: u64, parts: usize) -> Vec<u64> {
+        let mut cuts: Vec<u64> = (1..parts).map(|_| self.any() % (sum + 1)).collect();
+        cuts.extend([0, sum]);
+        cuts.sort();
+        cuts.windows(2).map(|two| two[1] - two[0]).collect()
+    }
+
     pub fn one_of<T: Copy>(&mut self, choices: &[T]) -> T {
         choices[self.place(choices.len())]
     }

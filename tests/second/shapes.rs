@@ -25,20 +25,17 @@ impl Shape {
 
     /// The same graph with its vertices numbered at random.
     pub fn relabelled(&self, random: &mut Random) -> Shape {
-        let mut names: Vec<usize> = (0..self.n).collect();
-        for place in 1..self.n {
-            names.swap(place, random.between(0, place));
-        }
-        self.renamed(|vertex| names[vertex])
+        self.renamed(&at_random(self.n, random))
     }
 
     /// The same graph with its vertices numbered from the last to the first.
     pub fn numbered_backwards(&self) -> Shape {
-        self.renamed(|vertex| self.n - 1 - vertex)
+        self.renamed(&backwards(self.n))
     }
 
-    fn renamed(&self, name: impl Fn(usize) -> usize) -> Shape {
-        let edges = self.edges.iter().map(|&(from, to)| (name(from), name(to))).collect();
+    /// The same graph in which each vertex has the number that is named for it.
+    pub fn renamed(&self, names: &[usize]) -> Shape {
+        let edges = self.edges.iter().map(|&(from, to)| (names[from], names[to])).collect();
         Shape { n: self.n, edges }
     }
 
@@ -132,6 +129,29 @@ impl Shape {
 const BESIDE: usize = 0;
 const MOST_NEW: usize = 4;
 
+// ---- numbers for vertices
+
+/// A way to number so many vertices: for each the number that it is to have.
+pub type Numbering = fn(usize, &mut Random) -> Vec<usize>;
+
+pub const NUMBERINGS: [(&str, Numbering); 3] = [
+    ("as it is", |n, _| (0..n).collect()),
+    ("numbered backwards", |n, _| backwards(n)),
+    ("numbered at random", at_random),
+];
+
+fn backwards(n: usize) -> Vec<usize> {
+    (0..n).rev().collect()
+}
+
+fn at_random(n: usize, random: &mut Random) -> Vec<usize> {
+    let mut names: Vec<usize> = (0..n).collect();
+    for place in 1..n {
+        names.swap(place, random.between(0, place));
+    }
+    names
+}
+
 // ---- small ones, and random ones
 
 /// Every graph of n vertices, self-loops and all.
@@ -187,6 +207,14 @@ pub fn bubbly_acyclic(random: &mut Random, n: usize) -> Shape {
         _ => chain(few),
     };
     first.grown(random, n).relabelled(random)
+}
+
+/// Two superbubbles one after the other with arms of up to twelve vertices, in which others grow, as far
+/// as n vertices reach.
+pub fn long_armed(random: &mut Random, n: usize) -> Shape {
+    let mut lengths = || (0..random.between(2, 3)).map(|_| random.between(1, 12)).collect();
+    let superbubbles: Vec<Vec<usize>> = (0..2).map(|_| lengths()).collect();
+    arms(&superbubbles).grown(random, n).relabelled(random)
 }
 
 // ---- plain shapes
@@ -250,13 +278,25 @@ pub fn backbone() -> Shape {
 pub const BOTTOM: usize = 512;
 pub const TOP: usize = 1_535;
 
+/// Superbubbles one after the other, each by the lengths of its arms, of which one may be 0: the exit of
+/// each is the entrance of the next. Each exit is numbered before the arms that lead to it.
+pub fn arms(superbubbles: &[Vec<usize>]) -> Shape {
+    let mut shape = Shape { n: 1, edges: Vec::new() };
+    let mut entrance = 0;
+    for lengths in superbubbles {
+        let exit = shape.n;
+        shape.n += 1;
+        for &inner in lengths {
+            shape.add_arm(entrance, inner, exit);
+        }
+        entrance = exit;
+    }
+    shape
+}
+
 /// From 0 to 1 by each other vertex.
 pub fn fan(n: usize) -> Shape {
-    let mut fan = Shape { n: 2, edges: Vec::new() };
-    for _ in 2..n {
-        fan.add_arm(0, 1, 1);
-    }
-    fan
+    arms(&[vec![1; n - 2]])
 }
 
 /// From an entrance through 510 layers of four vertices, each with an edge to all of the next layer, to
@@ -278,16 +318,7 @@ pub fn ladder() -> Shape {
 
 /// Superbubbles of two arms, so many one after the other.
 pub fn diamonds(times: usize) -> Shape {
-    let mut diamonds = Shape { n: 1, edges: Vec::new() };
-    let mut entrance = 0;
-    for _ in 0..times {
-        let exit = diamonds.n;
-        diamonds.n += 1;
-        diamonds.add_arm(entrance, 1, exit);
-        diamonds.add_arm(entrance, 1, exit);
-        entrance = exit;
-    }
-    diamonds
+    arms(&vec![vec![1; 2]; times])
 }
 
 /// Superbubbles in each other, so many deep, many times one after the other: the exit of each

@@ -9,7 +9,8 @@ use crate::table::Table;
 
 pub struct Turns {
     pub table: Table,
-    pub budgets: [u32; 3],
+    /// One or more budgets whose sum is one.
+    pub budgets: Vec<u32>,
     /// A budget for one more fold, whatever is left.
     pub further: u32,
 }
@@ -20,13 +21,18 @@ pub type Folds<'a> = &'a dyn Fn(&[(&Table, u32)]) -> Vec<Result<Folded, String>>
 impl Turns {
     /// What is asked, taken apart.
     pub fn asked(&self) -> Vec<Part> {
-        let [first, second, third] = self.budgets;
+        let budgets: Vec<String> = self.budgets.iter().map(u32::to_string).collect();
         let mut asked = vec![
-            Part::value("budgets", format!("{first} {second} {third}")),
+            Part::value("budgets", budgets.join(" ")),
             Part::value("a further one", self.further),
         ];
         asked.extend(self.table.parts());
         asked
+    }
+
+    pub fn sum(&self) -> u32 {
+        let sum: u64 = self.budgets.iter().map(|&budget| u64::from(budget)).sum();
+        u32::try_from(sum).expect("the sum of the budgets is a budget")
     }
 }
 
@@ -47,35 +53,45 @@ pub type State = Result<Folded, String>;
 pub fn turned(turns: &[&Turns], folds: Folds) -> Vec<Turned> {
     let unfolded = |one: &Turns| Folded { table: one.table.clone(), folded: 0, left: 0 };
     let before: Vec<State> = turns.iter().map(|one| Ok(unfolded(one))).collect();
-    let sums = turns.iter().map(|one| one.budgets.iter().sum()).collect();
-    let at_once = once_more(&before, sums, folds);
+    let at_once = once_more(turns, &before, |one| Some(one.sum()), folds);
     let mut in_turn = before;
-    for turn in 0..3 {
-        let budgets = turns.iter().map(|one| one.budgets[turn]).collect();
-        in_turn = once_more(&in_turn, budgets, folds);
+    let most = turns.iter().map(|one| one.budgets.len()).max().unwrap_or(0);
+    for turn in 0..most {
+        in_turn = once_more(turns, &in_turn, |one| one.budgets.get(turn).copied(), folds);
     }
-    let further = turns.iter().map(|one| one.further).collect();
-    let further = once_more(&in_turn, further, folds);
+    let further = once_more(turns, &in_turn, |one| Some(one.further), folds);
     let all = at_once.into_iter().zip(in_turn).zip(further);
     all.map(|((at_once, in_turn), further)| Turned { at_once, in_turn, further }).collect()
 }
 
-/// Folds what each has come to, and adds up how many were folded.
-fn once_more(states: &[State], budgets: Vec<u32>, folds: Folds) -> Vec<State> {
-    let with_budgets = states.iter().zip(budgets);
+/// Folds what each has come to, where there is a budget for it, and adds up how many were folded.
+fn once_more(
+    turns: &[&Turns],
+    states: &[State],
+    budget: impl Fn(&Turns) -> Option<u32>,
+    folds: Folds,
+) -> Vec<State> {
+    let budgets = turns.iter().map(|one| budget(one));
+    let with_budgets: Vec<(&State, Option<u32>)> = states.iter().zip(budgets).collect();
     let questions: Vec<(&Table, u32)> = with_budgets
-        .filter_map(|(state, budget)| Some((&state.as_ref().ok()?.table, budget)))
+        .iter()
+        .filter_map(|(state, budget)| Some((&state.as_ref().ok()?.table, (*budget)?)))
         .collect();
     let mut answers = folds(&questions).into_iter();
-    let mut next = |before: &Folded| {
-        let after = answers.next().unwrap()?;
-        let totals = [before, &after].map(|folded| folded.table.sum_of_counts());
-        if totals[0] != totals[1] {
-            return Err(format!("the total moves from {} to {}", totals[0], totals[1]));
-        }
-        Ok(Folded { folded: before.folded + after.folded, ..after })
+    let next = |(state, budget): (&State, Option<u32>)| match (state, budget) {
+        (Ok(before), Some(_)) => added_up(before, answers.next().unwrap()?),
+        _ => state.clone(),
     };
-    states.iter().map(|state| state.as_ref().map_err(String::clone).and_then(&mut next)).collect()
+    with_budgets.into_iter().map(next).collect()
+}
+
+/// What a fold gives, and with it what was folded before.
+fn added_up(before: &Folded, after: Folded) -> State {
+    let totals = [before, &after].map(|folded| folded.table.sum_of_counts());
+    if totals[0] != totals[1] {
+        return Err(format!("the total moves from {} to {}", totals[0], totals[1]));
+    }
+    Ok(Folded { folded: before.folded + after.folded, ..after })
 }
 
 impl Turned {

@@ -1,0 +1,217 @@
+//! The cases for the sharing of dropped reads: kept paths of few inner vertices with every remainder,
+//! long ones, the largest sum, arms that are worth the same, kept bare edges, superbubbles in a row that
+//! a budget parts, and some with others inside.
+
+use crate::cases::Cases;
+use crate::graphs;
+use crate::operations::Operation;
+use crate::random::Random;
+use crate::shapes::{self, Shape, NUMBERINGS};
+use crate::table::{Table, LARGEST_SUM, MOST_VERTICES};
+
+/// An arm of a superbubble: how many vertices it has, and how many reads they have together.
+type Arm = (usize, u64);
+
+const BARE_EDGE: Arm = (0, 0);
+
+/// The most inner vertices that a kept path can have where a vertex is dropped.
+const LONGEST: usize = MOST_VERTICES - 3;
+
+/// What is left when the dropped reads are divided by many inner vertices.
+const REMAINDERS: [(&str, fn(&mut Random, usize) -> usize); 4] = [
+    ("remainder 0", |_, _| 0),
+    ("remainder 1", |_, _| 1),
+    ("the largest remainder", |_, inner| inner - 1),
+    ("another remainder", |random, inner| random.between(2, inner - 2)),
+];
+
+/// The reads of arms, which come near the largest sum: of the kept one, and of those that are dropped.
+const LARGE_SUMS: [(&str, u64, &[u64]); 4] = [
+    ("nearly none dropped", LARGEST_SUM - 1_000, &[900]),
+    ("nearly half dropped", 1 << 39, &[(1 << 39) - 200]),
+    ("half dropped", (1 << 39) - 200, &[1 << 38, 1 << 38]),
+    ("nearly three quarters dropped", (1 << 38) + 200, &[1 << 38, 1 << 38, (1 << 38) - 400]),
+];
+
+impl Cases {
+    pub fn shares(&mut self) {
+        self.every_remainder();
+        self.long_paths();
+        self.largest_sums();
+        for _ in 0..60 {
+            self.one_folded("arms that are worth the same", None, |random| {
+                let reads = random.one_of(&[0, 0, 1, 7, 1_000, LARGEST_SUM / 6]);
+                let arms = worth_the_same(random, reads);
+                Counted::of(random, &[arms])
+            });
+        }
+        for _ in 0..500 {
+            self.parted("superbubbles in a row with long arms", 7, row_with_long_arms);
+        }
+        for (many, most) in [(300, 150), (4, MOST_VERTICES)] {
+            for _ in 0..many {
+                self.parted("long arms with superbubbles inside", 3, |random| {
+                    let n = random.between(most / 3, most);
+                    shapes::long_armed(random, n).table(random)
+                });
+            }
+        }
+    }
+
+    /// Fewer dropped reads than inner vertices, as many or some more, and many more.
+    fn every_remainder(&mut self) {
+        for inner in 1..=12 {
+            for remainder in 0..inner {
+                for (least, most) in [(0, 0), (1, 1), (2, 1_000)] {
+                    let name = format!("{inner} inner vertices, remainder {remainder}");
+                    self.one_folded(&name, Some(inner), |random| {
+                        let reads = random.between(least, most) * inner + remainder;
+                        superbubble(random, inner, reads)
+                    });
+                }
+            }
+        }
+    }
+
+    fn long_paths(&mut self) {
+        for inner in [63, 64, 65, 255, 256, 1_000, 2_000, LONGEST] {
+            for (words, remainder) in REMAINDERS {
+                let name = format!("{inner} inner vertices, {words}");
+                self.one_folded(&name, Some(inner), |random| {
+                    let remainder = remainder(random, inner);
+                    let least = usize::from(remainder == 0);
+                    let reads = random.one_of(&[least, 1, 1_000, 1 << 27]) * inner + remainder;
+                    superbubble(random, inner, reads)
+                });
+            }
+        }
+    }
+
+    fn largest_sums(&mut self) {
+        for inner in [1, 2, 3, 5, 7, 12, 100] {
+            for (words, kept, dropped) in LARGE_SUMS {
+                let name = format!("the largest sum, {inner} inner vertices, {words}");
+                self.one_folded(&name, Some(inner), |random| {
+                    let dropped = dropped.iter().map(|&reads| (random.between(1, 3), reads));
+                    let arms = [(inner, kept)].into_iter().chain(dropped).collect();
+                    Counted::of(random, &[arms]).filled()
+                });
+            }
+        }
+    }
+
+    /// One superbubble, which is folded. Where it is known how many inner vertices the kept path has, it
+    /// is known how many edges are left.
+    fn one_folded(
+        &mut self,
+        name: &str,
+        inner: Option<usize>,
+        make: impl Fn(&mut Random) -> Counted,
+    ) {
+        let edges = inner.map_or_else(String::new, |inner| format!("{}\n", inner + 1));
+        self.in_each_numbering(name, &format!("fold 0 1 0 {edges}"), |random, number| {
+            let counted = make(random);
+            let table = counted.table(&number(counted.shape.n, random));
+            Operation::fold_exactly(random.one_of(&[1, 1, 2, u32::MAX]), table)
+        });
+    }
+
+    /// A table with several superbubbles, of which a budget up to this one folds some.
+    fn parted(&mut self, name: &str, most: usize, make: impl Fn(&mut Random) -> Table) {
+        self.add(name, |random| {
+            let table = make(random);
+            Operation::fold_exactly(random.between(0, most) as u32, table)
+        });
+    }
+}
+
+/// A graph with its counts.
+struct Counted {
+    shape: Shape,
+    counts: Vec<u64>,
+}
+
+impl Counted {
+    /// Superbubbles one after the other by their arms. The reads of an arm lie on its vertices in any
+    /// way, and a few lie on each entrance and exit.
+    fn of(random: &mut Random, superbubbles: &[Vec<Arm>]) -> Counted {
+        let lengths = |arms: &Vec<Arm>| arms.iter().map(|&(inner, _)| inner).collect();
+        let shape = shapes::arms(&superbubbles.iter().map(lengths).collect::<Vec<_>>());
+        let mut counts = vec![random.between(0, 9) as u64];
+        for arms in superbubbles {
+            counts.push(random.between(0, 9) as u64);
+            for &(inner, reads) in arms.iter().filter(|&&arm| arm != BARE_EDGE) {
+                counts.extend(random.parts(reads, inner));
+            }
+        }
+        Counted { shape, counts }
+    }
+
+    /// The same with so many more reads on the first entrance that all come to the largest sum.
+    fn filled(mut self) -> Counted {
+        self.counts[0] += LARGEST_SUM - self.counts.iter().sum::<u64>();
+        self
+    }
+
+    /// The table in which each vertex has the number that is named for it.
+    fn table(&self, names: &[usize]) -> Table {
+        let mut counts = vec![0; self.shape.n];
+        for (&name, &count) in names.iter().zip(&self.counts) {
+            counts[name] = count;
+        }
+        graphs::of_edges(&self.shape.renamed(names).edges, counts)
+    }
+}
+
+/// A superbubble whose kept path has so many inner vertices, and from which so many reads are dropped.
+fn superbubble(random: &mut Random, inner: usize, reads: usize) -> Counted {
+    let arms = arms(random, inner, reads);
+    Counted::of(random, &[arms])
+}
+
+/// The arms of such a one: beside the kept arm one to three short ones, and perhaps a bare edge.
+fn arms(random: &mut Random, inner: usize, reads: usize) -> Vec<Arm> {
+    // beside the longest there is room for one vertex alone
+    let most = if inner == LONGEST { 1 } else { 3 };
+    let lengths: Vec<usize> =
+        (0..random.between(1, most)).map(|_| random.between(1, most)).collect();
+    let dropped = random.parts(reads as u64, lengths.len());
+    let kept = dropped.iter().max().unwrap() + random.one_of(&[1, 2, 100]);
+    let mut arms: Vec<Arm> = lengths.into_iter().zip(dropped).chain([(inner, kept)]).collect();
+    if random.between(0, 3) == 0 {
+        arms.push(BARE_EDGE);
+    }
+    let first = random.place(arms.len());
+    arms.rotate_left(first);
+    arms
+}
+
+/// Two to five arms of up to twelve vertices that are worth the same; where that is nothing, with a bare
+/// edge.
+fn worth_the_same(random: &mut Random, reads: u64) -> Vec<Arm> {
+    let mut arms: Vec<Arm> =
+        (0..random.between(2, 5)).map(|_| (random.between(1, 12), reads)).collect();
+    if reads == 0 {
+        arms.push(BARE_EDGE);
+    }
+    arms
+}
+
+/// Two to six superbubbles one after the other, numbered in any way.
+pub fn row_with_long_arms(random: &mut Random) -> Table {
+    let superbubbles: Vec<Vec<Arm>> = (0..random.between(2, 6)).map(|_| any_arms(random)).collect();
+    let counted = Counted::of(random, &superbubbles);
+    let (_, number) = random.one_of(&NUMBERINGS);
+    counted.table(&number(counted.shape.n, random))
+}
+
+fn any_arms(random: &mut Random) -> Vec<Arm> {
+    if random.between(0, 5) == 0 {
+        let reads = random.one_of(&[0, 7]);
+        return worth_the_same(random, reads);
+    }
+    let inner = random.one_of(&[1, 2, 3, 4, 5, 7, 8, 12, 16, 33]);
+    let most = random.one_of(&[inner, 3 * inner, 1_000, 1 << 35]);
+    let reads = random.between(0, most);
+    arms(random, inner, reads)
+}
