@@ -9,6 +9,7 @@ use crate::cases::Case;
 use crate::count::Fault;
 use crate::image::{self, Room, ROOMS};
 use crate::operations::{exact_room, Operation, OPERATIONS};
+use crate::sharing_coverage;
 use crate::table::{number_given, Table, MOST_EDGES};
 use crate::walk::{self, Closed, Walk};
 use std::collections::HashSet;
@@ -31,11 +32,12 @@ pub fn check(cases: &[Case], answers: &[Vec<u8>]) -> Vec<(String, Fault)> {
     }
     let folds: Vec<Fold> = cases.iter().zip(answers).filter_map(Fold::of).collect();
     checks.extend(every_small_graph(&folds));
-    checks.extend(cycles(&folds));
+    checks.extend(met("fold", &folds, &MET));
+    checks.extend(sharing_coverage::check(cases, answers));
     checks
 }
 
-fn too_few(cases: usize, fewest: usize) -> Fault {
+pub fn too_few(cases: usize, fewest: usize) -> Fault {
     (cases < fewest).then(|| format!("only {cases} cases, {fewest} are due"))
 }
 
@@ -296,12 +298,17 @@ const MET: [Met; 20] = [
     }),
 ];
 
-fn cycles(folds: &[Fold]) -> Vec<(String, Fault)> {
+/// Holds all that is of one kind to what it must meet.
+pub fn met<T, Holds: Fn(&T) -> bool>(
+    kind: &str,
+    all: &[T],
+    due: &[(&str, usize, Holds)],
+) -> Vec<(String, Fault)> {
     let mut checks = Vec::new();
-    for (what, fewest, holds) in MET {
-        let met = folds.iter().filter(|fold| holds(fold)).count();
-        println!("fold: {met} {what}");
-        checks.push((format!("fold: {what}"), too_few(met, fewest)));
+    for (what, fewest, holds) in due {
+        let met = all.iter().filter(|one| holds(one)).count();
+        println!("{kind}: {met} {what}");
+        checks.push((format!("{kind}: {what}"), too_few(met, *fewest)));
     }
     checks
 }

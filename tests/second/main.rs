@@ -16,8 +16,8 @@
 //! - sheet.rs, messages.rs: the words that the programs say
 //! - launcher.rs, launcher/: the script `gohardim`
 //! - faults.rs, faults/: what may befall the programs, system call by system call
-//! - compare.rs, self_test.rs, coverage.rs, examples.rs, count.rs: the comparison, and the checks that
-//!   need no program
+//! - compare.rs, self_test.rs, coverage.rs, sharing_coverage.rs, examples.rs, count.rs: the comparison,
+//!   and the checks that need no program
 //! - again.rs: one case again, by its number
 
 mod again;
@@ -51,6 +51,7 @@ mod self_test;
 mod shapes;
 mod sharing;
 mod sharing_cases;
+mod sharing_coverage;
 mod sheet;
 mod superbubble_cases;
 mod superbubbles;
