@@ -16,7 +16,7 @@ use Rattle.bubble.proofs.Pigeonhole.{getD-in, distinct-apart}
 use Rattle.bubble.proofs.Reflect.{decided, decides-member}
 use Rattle.rule.specs.Lists.{CandidateSet, sum, Listing, Follows}
 use Rattle.rule.specs.Kept.{Kept}
-use Rattle.rule.specs.Fold.{to-first, first-takes-all}
+use Rattle.rule.specs.Fold.{to-first, kept-shares}
 use Rattle.rule.specs.Tables.{count-of}
 use Rattle.rule.proofs.Listings.{rising-distinct, listing-same, listing-exists}
 use Rattle.rule.proofs.Sums.{sum-reordered}
@@ -125,7 +125,7 @@ module _ {C : CandidateSet} {table : Table} {visited : List ℕ} {t : ℕ} {best
         → ((j : ℕ) → j < length (w .arm) → getD out′ (getD (w .arm) j 0) 0 ≡ getD counts (getD (w .arm) j 0) 0 + to-first dropped (length (w .arm)) j)
         → ((v : ℕ) → List·Memᴰ v (w .gone) → getD out′ v 0 ≡ 0)
         → ((v : ℕ) → (Interior (edges rows) (getD visited 0 0) t v → ⊥) → getD out′ v 0 ≡ getD out₁ v 0)
-        → KeptDone C first-takes-all table (getD visited 0 0) t best next out best′ next′ out′
+        → KeptDone C kept-shares table (getD visited 0 0) t best next out best′ next′ out′
     done long added emptied untouched = record {
       item = record { entrance = getD visited 0 0; exit = t; arm = w .arm; dropped = gone-listed .0 };
       entrance = refl;
@@ -147,7 +147,7 @@ module _ {C : CandidateSet} {table : Table} {visited : List ℕ} {t : ℕ} {best
     }
 
     -- the bare edge is kept: there is no vertex to add to
-    pub keep-bare : getD next′ (getD visited 0 0) 0 ≡ t → KeptDone C first-takes-all table (getD visited 0 0) t best next out best′ next′ out₁
+    pub keep-bare : getD next′ (getD visited 0 0) 0 ≡ t → KeptDone C kept-shares table (getD visited 0 0) t best next out best′ next′ out₁
     keep-bare q = done refl (λ j h. absurd (by-next-first by-next (omega arith) .1 (sym first-vertex ∙ q))) (λ v m. out-gone m) (λ v n. refl)
 
     -- the vertex after the entrance gets the dropped counts
@@ -174,6 +174,6 @@ module _ {C : CandidateSet} {table : Table} {visited : List ℕ} {t : ℕ} {best
           let apart : v ≢ first = λ q. omega (arith, distinct-apart (inner-distinct (w .arm) (p .order .superbubble) (kept-path .arm)) (suc j) 0 h (omega arith) (q ∙ sym here)) in
           omega (arith, other v apart, out-arm (getD-in (w .arm) (suc j) h))
 
-      pub keep-first : KeptDone C first-takes-all table (getD visited 0 0) t best next out best′ next′ (set out₁ first more)
+      pub keep-first : KeptDone C kept-shares table (getD visited 0 0) t best next out best′ next′ (set out₁ first more)
       keep-first = done (length-set out₁ first more) added (λ v m. other v (λ q. arm-gone (p .order .apart) (w .passing) (omega arith) (rw q first-inner) m) ∙ out-gone m)
           (λ v h. other v (λ q. h (rw q (kept-path .arm .inner first first-inner))))

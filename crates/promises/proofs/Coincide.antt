@@ -46,7 +46,7 @@ use Rattle.turns.specs.Turns.{TurnDone}
 use Rattle.turns.proofs.Determined.{turn-determined}
 use Rattle.staying.specs.Staying.{TableWritten}
 use Rattle.staying.proofs.Determined.{write-table-determined}
-use Rattle.rule.specs.Fold.{Candidate, first-takes-all}
+use Rattle.rule.specs.Fold.{Candidate, kept-shares}
 use Rattle.rule.specs.Way.{the-fold}
 use Rattle.rule.proofs.TheFold.{the-fold-lawful}
 use Rattle.folding.specs.declared.folds.Folded.{Folded}
@@ -178,7 +178,7 @@ find-coincides = found-determined (the-fold-lawful .candidates-lawful)
 
 -- `kept::keep`, whatever stood in the best sums: all but these
 pub keep-coincides : {table : Table} {best best′ next out best₁ next₁ out₁ best₂ next₂ out₂ : List ℕ} {s t : ℕ}
-    → KeptDone Candidate first-takes-all table s t best next out best₁ next₁ out₁ → KeptDone Candidate first-takes-all table s t best′ next out best₂ next₂ out₂
+    → KeptDone Candidate kept-shares table s t best next out best₁ next₁ out₁ → KeptDone Candidate kept-shares table s t best′ next out best₂ next₂ out₂
     → (next₁ ≡ next₂) × (out₁ ≡ out₂)
 keep-coincides = kept-coincide (the-fold-lawful .candidates-lawful) (the-fold-lawful .rule-lawful)
 

@@ -22,7 +22,7 @@ use Rattle.listing.proofs.SoundList.{sound-accepted, front-is-list, front-liste
 use Rattle.promises.proofs.TwelveGraphs.{twelve-graphs}
 use Rattle.judging.specs.declared.Judgement.{Judgement}
 use Rattle.judging.specs.Judging.{pairInside, Judged, JudgeDone}
-use Rattle.rule.specs.Fold.{NoCycle, Candidate, Item, first-takes-all}
+use Rattle.rule.specs.Fold.{NoCycle, Candidate, Item, kept-shares}
 use Rattle.rule.specs.Tables.{TableFolded}
 use Rattle.rule.specs.Way.{the-fold}
 use Rattle.rule.proofs.Ends.{budget-zero}
@@ -95,7 +95,7 @@ module _ {table table′ : Table} {budget : ℕ} (ok : Foldable table) (call : F
   fold-accepted = call-accepted the-fold-lawful (ok .sound) (foldable-kind ok) call
 
   -- the table and counts at the fronts of the slices are those of the rule,
-  pub fold-by-rule : TableFolded Candidate first-takes-all table budget table′ (call .answer .folded) (call .answer .left)
+  pub fold-by-rule : TableFolded Candidate kept-shares table budget table′ (call .answer .folded) (call .answer .left)
   fold-by-rule = call-by-rule the-fold-lawful (ok .sound) (foldable-kind ok) call
 
   -- with as many edges as are returned,

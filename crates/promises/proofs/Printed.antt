@@ -22,7 +22,7 @@ use Rattle.listing.proofs.Determined.{superbubbles-determined}
 use Rattle.judging.specs.declared.Judgement.{Judgement}
 use Rattle.judging.specs.Judging.{pairInside, JudgeDone}
 use Rattle.judging.proofs.Determined.{judged-determined}
-use Rattle.rule.specs.Fold.{Candidate, first-takes-all}
+use Rattle.rule.specs.Fold.{Candidate, kept-shares}
 use Rattle.rule.specs.Tables.{TableFolded}
 use Rattle.rule.specs.Way.{the-fold}
 use Rattle.rule.proofs.TheFold.{the-fold-lawful}
@@ -106,7 +106,7 @@ module _ (image : List ℕ) {out out′ new new′ : List ℕ} {budget : ℕ} {a
   -- and fold writes the image of the table that the rule gives, and prints how many it folded and left and how many edges that table has.
   pub fold-delivers : answers .number ≡ 0
       → (table′ : Table) × (folded : ℕ) × (left : ℕ)
-      × TableFolded Candidate first-takes-all (tableOf image) budget table′ folded left
+      × TableFolded Candidate kept-shares (tableOf image) budget table′ folded left
       × (take (answers .image) new′ ≡ imageOf table′)
       × (take (answers .line) out′ ≡ text (foldLines folded left (length (table′ .rows .targets))))
   fold-delivers e =

@@ -1,6 +1,6 @@
 -- A rule that keeps the best path meets the laws if its score does and its portions come to the whole; the rule of docs/RULES.md, Fold, is one.
 -- A kept bare edge means that every interior count is 0. Assumes nothing.
-use Prim.Native.Nat.{ℕ, zero, suc, _≤_, _<_}
+use Prim.Native.Nat.{ℕ, _≤_, _<_}
 use mathlib.Core.Path.{_≡_, sym, _∙_}
 use mathlib.Core.Logic.{inl, ⊎-map}
 use mathlib.Core.List.{List, [], List·Memᴰ, List·Memᴰ·head, List·Memᴰ·tail}
@@ -10,10 +10,11 @@ use Rattle.bubble.specs.Superbubble.{Interior, Bubbloid, Superbubble}
 use Rattle.bubble.proofs.Facts.{exit-inside}
 use Rattle.rule.specs.Lists.{Graph, Counts, sum, total}
 use Rattle.rule.specs.Kept.{Arm, Beats, Best, Kept}
-use Rattle.rule.specs.Fold.{to-first, first-takes-all}
+use Rattle.rule.specs.Fold.{to-each, kept-shares}
 use Rattle.rule.specs.Laws.{SameInside, RuleLaws, ScoreLaws}
 use Rattle.rule.proofs.Inside.{inside-back, arm-carried}
 use Rattle.rule.proofs.Sums.{sum-same}
+use Rattle.rule.proofs.Shares.{to-each-whole}
 use Rattle.rule.proofs.Choice.{best-one}
 use Rattle.rule.proofs.Through.{arm-through}
 
@@ -59,14 +60,6 @@ sum-laws = record { own = sum-same; bare = λ c l k v m. omega (arith, count-wit
 pub kept-bare-edge : {E : Graph} {c : Counts} {s t : ℕ} → Superbubble E s t → Kept E c s t [] → (v : ℕ) → Interior E s t v → c v ≡ 0
 kept-bare-edge p = best-bare sum-laws (p .bubbloid)
 
-to-first-whole : (d k n : ℕ) → total (to-first d k) (suc n) ≡ d
-to-first-whole d k zero = omega arith
-to-first-whole d k (suc n) = omega (arith, to-first-whole d k n)
-
 -- the rule of docs/RULES.md, Fold, meets the laws
-pub first-takes-all-laws : RuleLaws first-takes-all
-first-takes-all-laws = best-laws sum-laws to-first whole
-  where
-    whole : (d k : ℕ) → 0 < k → total (to-first d k) k ≡ d
-    whole d zero h = absurd (omega arith)
-    whole d (suc n) h = to-first-whole d (suc n) n
+pub kept-shares-laws : RuleLaws kept-shares
+kept-shares-laws = best-laws sum-laws to-each to-each-whole

@@ -6,13 +6,13 @@ use lib.ListN.{length}
 use Rattle.bubble.specs.Superbubble.{Interior, Superbubble}
 use Rattle.bubble.proofs.Number.{Below}
 use Rattle.rule.specs.Lists.{Graph, CandidateSet, Counts, Listing, total, Same}
-use Rattle.rule.specs.Fold.{Rule, NoCycle, Candidate, Entrance, first-takes-all, GraphFolded, InTurn, budgets-sum}
+use Rattle.rule.specs.Fold.{Rule, NoCycle, Candidate, Entrance, kept-shares, GraphFolded, InTurn, budgets-sum}
 use Rattle.rule.specs.Laws.{RuleLaws, CandidateLaws}
 use Rattle.rule.proofs.Coincide.{applied-same}
 use Rattle.rule.proofs.Budgets.{in-turn-applied}
 use Rattle.rule.proofs.Total.{total-kept}
 use Rattle.rule.proofs.Ends.{none-left, nothing-changes}
-use Rattle.rule.proofs.BestLaws.{first-takes-all-laws}
+use Rattle.rule.proofs.BestLaws.{kept-shares-laws}
 use Rattle.rule.proofs.Candidates.{candidate-laws}
 use Rattle.rule.proofs.Outermost.{no-interior}
 
@@ -37,10 +37,10 @@ module _ {G : Graph → Type 0} {C : CandidateSet} {R : Rule} (L : CandidateLaws
 
 -- the fold of docs/RULES.md
 module _ {E E′ : Graph} {c c′ : Counts} {budgets : List ℕ} (n : ℕ) (below : Below E n) (acyclic : NoCycle E)
-    (turns : InTurn Candidate first-takes-all E c budgets E′ c′) where
+    (turns : InTurn Candidate kept-shares E c budgets E′ c′) where
   -- Once the budgets reach the number of outermost superbubbles with an interior of the first graph, no superbubble with an interior is left,
   pub none-with-interior : {l : List ℕ} → Listing (Entrance Candidate E) l → length l ≤ budgets-sum budgets → (s t : ℕ) → Superbubble E′ s t → (v : ℕ)
       → Interior E′ s t v → ⊥
   none-with-interior k h =
-      let fewer : Below E′ n = λ u v e. below u v (in-turn-applied candidate-laws first-takes-all-laws acyclic turns .edges u v .0 e .0) in
-      no-interior fewer (no-candidate candidate-laws first-takes-all-laws acyclic turns k h)
+      let fewer : Below E′ n = λ u v e. below u v (in-turn-applied candidate-laws kept-shares-laws acyclic turns .edges u v .0 e .0) in
+      no-interior fewer (no-candidate candidate-laws kept-shares-laws acyclic turns k h)

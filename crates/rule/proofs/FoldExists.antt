@@ -9,14 +9,14 @@ use Rattle.bubble.proofs.Pigeonhole.{getD-in, place-of, distinct-apart}
 use Rattle.bubble.proofs.Number.{Below, interior-below}
 use Rattle.bubble.proofs.Reflect.{decided, decides-member}
 use Rattle.rule.specs.Lists.{Graph, CandidateSet, Counts, Listing, sum}
-use Rattle.rule.specs.Fold.{Rule, NoCycle, Candidate, Entrance, first-takes-all, Item, Fits, Applied, GraphFolded}
+use Rattle.rule.specs.Fold.{Rule, NoCycle, Candidate, Entrance, kept-shares, Item, Fits, Applied, GraphFolded}
 use Rattle.rule.specs.Laws.{RuleLaws, CandidateLaws}
 use Rattle.rule.proofs.Together.{entrances, Staying}
 use Rattle.rule.proofs.WhereIs.{Where, Where.on-arm, Where.is-dropped, Where.neither, where-is}
 use Rattle.rule.proofs.Items.{item-arm, dropped-inner, arm-distinct-inner, one-item}
 use Rattle.rule.proofs.Budgets.{folded-of}
 use Rattle.rule.proofs.Listings.{listing-exists}
-use Rattle.rule.proofs.BestLaws.{first-takes-all-laws}
+use Rattle.rule.proofs.BestLaws.{kept-shares-laws}
 use Rattle.rule.proofs.Candidates.{candidate-laws}
 use Rattle.rule.proofs.KeptExists.{kept-exists}
 use Rattle.rule.proofs.CandidatesListed.{interior-is-decided, candidates-listed}
@@ -79,7 +79,7 @@ module _ {G : Graph → Type 0} {C : CandidateSet} {R : Rule} (L : CandidateLaws
 
 module _ {E : Graph} (decide : (u v : ℕ) → Dec (E u v)) {n : ℕ} (below : Below E n) (acyclic : NoCycle E) (c : Counts) where
   -- the item of a candidate
-  item-for : (s : ℕ) → Entrance Candidate E s → (i : Item) × (i .entrance ≡ s) × Fits Candidate first-takes-all E c i
+  item-for : (s : ℕ) → Entrance Candidate E s → (i : Item) × (i .entrance ≡ s) × Fits Candidate kept-shares E c i
   item-for s h =
       let (t, k) = h in
       let (arm, best) = kept-exists decide below c (k .outermost .superbubble .bubbloid) in
@@ -94,7 +94,7 @@ module _ {E : Graph} (decide : (u v : ℕ) → Dec (E u v)) {n : ℕ} (below : B
           ]
 
   items-for : (l : List ℕ) → ((s : ℕ) → List·Memᴰ s l → Entrance Candidate E s)
-      → (items : List Item) × (entrances items ≡ l) × ((i : Item) → List·Memᴰ i items → Fits Candidate first-takes-all E c i)
+      → (items : List Item) × (entrances items ≡ l) × ((i : Item) → List·Memᴰ i items → Fits Candidate kept-shares E c i)
   items-for [] h = ([], refl, λ i m. absurd (List·Memᴰ·not-nil m))
   items-for (s ∷ l) h =
       let (i, q, f) = item-for s (h s (List·Memᴰ·head refl)) in
@@ -102,11 +102,11 @@ module _ {E : Graph} (decide : (u v : ℕ) → Dec (E u v)) {n : ℕ} (below : B
       (i ∷ items, ap₂ {C = List ℕ} (λ a b. a ∷ b) q r, λ j m. ⊎-elim (λ e. rw e f) (fit j) (List·Memᴰ·cases-cons m))
 
   -- there is a fold with every budget; by folded-same there is only one
-  pub fold-exists : (budget : ℕ) → (E′ : Graph) × (c′ : Counts) × (folded : ℕ) × (left : ℕ) × GraphFolded Candidate first-takes-all E c budget E′ c′ folded left
+  pub fold-exists : (budget : ℕ) → (E′ : Graph) × (c′ : Counts) × (folded : ℕ) × (left : ℕ) × GraphFolded Candidate kept-shares E c budget E′ c′ folded left
   fold-exists budget =
       let (l, a) = candidates-listed decide below in
       let listed : (s : ℕ) → List·Memᴰ s (take budget l) → Entrance Candidate E s =
       λ s m. a .holds s .0 (rw take-append-drop at (Memᴰ·append-left (drop budget l) m)) in
       let (items, q, fit) = items-for (take budget l) listed in
-      let applied = all-folded candidate-laws first-takes-all-laws acyclic items fit l a budget q in
-      (Staying E items, _, length (applied .items), length (drop budget (applied .candidates)), folded-of candidate-laws first-takes-all-laws acyclic applied)
+      let applied = all-folded candidate-laws kept-shares-laws acyclic items fit l a budget q in
+      (Staying E items, _, length (applied .items), length (drop budget (applied .candidates)), folded-of candidate-laws kept-shares-laws acyclic applied)

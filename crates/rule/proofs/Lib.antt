@@ -24,6 +24,7 @@ pub mod Ends
 pub mod NewRows
 pub mod ByNumber
 -- the rule and the candidates of docs/RULES.md, Fold, are lawful
+pub mod Shares
 pub mod Choice
 pub mod Through
 pub mod BestLaws

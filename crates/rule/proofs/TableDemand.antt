@@ -7,7 +7,7 @@ use Rattle.bubble.specs.Superbubble.{Interior, Superbubble}
 use Rattle.table.specs.Table.{countSum, Table, size, edges, SoundTable}
 use Rattle.table.proofs.RowLaws.{edges-below}
 use Rattle.rule.specs.Lists.{CandidateSet, Listing, total, Same}
-use Rattle.rule.specs.Fold.{Rule, NoCycle, Candidate, Entrance, first-takes-all, InTurn, InTurn.once, InTurn.then, budgets-sum}
+use Rattle.rule.specs.Fold.{Rule, NoCycle, Candidate, Entrance, kept-shares, InTurn, InTurn.once, InTurn.then, budgets-sum}
 use Rattle.rule.specs.Way.{Way}
 use Rattle.rule.specs.Laws.{WayLaws}
 use Rattle.rule.specs.Tables.{count-of, SameSize, TableFolded, TablesInTurn, TablesInTurn.once, TablesInTurn.then}
@@ -70,6 +70,6 @@ module _ {way : Way} (laws : WayLaws way) where
 
 -- Of the candidates of docs/RULES.md, Fold: no superbubble with an interior is left.
 pub no-interior-left : {table table′ : Table} {budgets l : List ℕ} → SoundTable table → NoCycle (edges (table .rows))
-    → TablesInTurn Candidate first-takes-all table budgets table′ → Listing (Entrance Candidate (edges (table .rows))) l → length l ≤ budgets-sum budgets
+    → TablesInTurn Candidate kept-shares table budgets table′ → Listing (Entrance Candidate (edges (table .rows))) l → length l ≤ budgets-sum budgets
     → (s t : ℕ) → Superbubble (edges (table′ .rows)) s t → (v : ℕ) → Interior (edges (table′ .rows)) s t v → ⊥
 no-interior-left {table} ok acyclic turns = none-with-interior (size (table .rows)) (edges-below (ok .well-formed)) acyclic (graphs-in-turn turns)

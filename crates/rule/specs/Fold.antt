@@ -1,9 +1,10 @@
 -- The fold of docs/RULES.md, Fold, as a definition over any graph with counts: candidates, sets, kept paths and sums are those of the graph handed in.
--- Which superbubbles are candidates, what is kept and how the dropped counts are shared are arguments; `Candidate` and `first-takes-all` are those of docs/RULES.md. Assumes nothing.
-use Prim.Native.Nat.{ℕ, zero, suc, _+_, _<_}
+-- Which superbubbles are candidates, what is kept and how the dropped counts are shared are arguments; `Candidate` and `kept-shares` are those of docs/RULES.md. Assumes nothing.
+use Prim.Native.Nat.{ℕ, _+_, _/_, _%_, _<_}
 use mathlib.Core.Path.{_≡_}
-use mathlib.Core.Logic.{_↔_}
+use mathlib.Core.Logic.{_↔_, ite}
 use mathlib.Core.List.{List, [], _∷_, _++_, map, List·Memᴰ}
+use native.Mathlib.Decide.{decLt}
 use lib.ListN.{length, take, getD}
 use Rattle.bubble.specs.Superbubble.{F, Walk, Interior, Outermost}
 use Rattle.rule.specs.Lists.{Graph, CandidateSet, Counts, Listing, sum, Follows}
@@ -23,14 +24,17 @@ pub record Rule : Type 1 where
   pub keeps : Graph → Counts → ℕ → ℕ → List ℕ → Type 0
   pub portion : ℕ → ℕ → ℕ → ℕ
 
--- all of it to the vertex after the entrance
-abbrev pub to-first : ℕ → ℕ → ℕ → ℕ
-to-first d k zero = d
-to-first d k (suc j) = 0
+-- one more for each of the first places, as many as the remainder r
+unfoldable pub one-more : ℕ → ℕ → ℕ
+one-more r j = ite (decLt j r) 1 0
 
--- the rule of docs/RULES.md, Fold
-abbrev pub first-takes-all : Rule
-first-takes-all = record { keeps = Kept; portion = to-first }
+-- to each place the quotient, and to the first ones one more
+abbrev pub to-each : ℕ → ℕ → ℕ → ℕ
+to-each d k j = d / k + one-more (d % k) j
+
+-- the rule of docs/RULES.md, Fold: the best path is kept, and its inner vertices share what is dropped
+abbrev pub kept-shares : Rule
+kept-shares = record { keeps = Kept; portion = to-each }
 
 -- a vertex that is the entrance of a candidate
 abbrev pub Entrance : CandidateSet → Graph → ℕ → Type 0

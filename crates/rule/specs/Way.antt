@@ -5,7 +5,7 @@ use Rattle.table.specs.Verdict.{Demand}
 use Rattle.table.specs.Table.{Rows, edges}
 use Rattle.bubble.specs.Cycle.{Cyclic}
 use Rattle.rule.specs.Lists.{Graph, CandidateSet}
-use Rattle.rule.specs.Fold.{NoCycle, Candidate, Rule, first-takes-all}
+use Rattle.rule.specs.Fold.{NoCycle, Candidate, Rule, kept-shares}
 
 -- 9: the table has a directed cycle
 abbrev pub noCycle : Rows → Demand
@@ -21,4 +21,4 @@ pub record Way : Type 1 where
 
 -- the fold of docs/RULES.md: of tables without a directed cycle
 abbrev pub the-fold : Way
-the-fold = record { Kind = NoCycle; asked = λ rows. noCycle rows ∷ []; candidates = Candidate; rule = first-takes-all }
+the-fold = record { Kind = NoCycle; asked = λ rows. noCycle rows ∷ []; candidates = Candidate; rule = kept-shares }

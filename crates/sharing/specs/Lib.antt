@@ -1,0 +1,2 @@
+-- The definitions of `sharing`. Assumes nothing.
+pub mod Sharing
