@@ -17,12 +17,12 @@ use Rattle.rule.specs.Laws.{CandidateLaws, WayLaws}
 use Rattle.kept.specs.Keeping.{Keepable, KeptDone}
 use Rattle.kept.proofs.OrderLaws.{visited-front}
 use Rattle.entrances.specs.Turns.{Turning}
-use Rattle.entrances.specs.Steps.{Room, Unfolded, EntranceFolded, NextEntrance}
-use Rattle.entrances.proofs.TurnLaws.{turns-to, turns-own, turns-more}
+use Rattle.entrances.specs.Steps.{Room, CandidateAt, EntranceFolded, NextEntrance}
+use Rattle.entrances.proofs.TurnLaws.{turns-to, turns-more}
 
 -- one candidate
 module _ {G : Graph → Type 0} {C : CandidateSet} (L : CandidateLaws G C) {table : Table} {parents pending order best next out : List ℕ} {s : ℕ}
-    (room : Room table parents pending order best next out) (unfolded : Unfolded C table out s) where
+    (room : Room table parents pending order best next out) (here : CandidateAt C table s) where
   open Table table using (rows)
   open Rows rows using (starts, targets)
 
@@ -30,7 +30,7 @@ module _ {G : Graph → Type 0} {C : CandidateSet} (L : CandidateLaws G C) {tabl
   entrance-searchable =
       record {
         well-formed = room .counted .well-formed;
-        vertex = unfolded .vertex;
+        vertex = here .vertex;
         counted = room .parents-counted;
         whole = room .whole;
         room = room .order-room;
@@ -39,11 +39,11 @@ module _ {G : Graph → Type 0} {C : CandidateSet} (L : CandidateLaws G C) {tabl
   module _ {pending′ order′ : List ℕ} where
     -- a candidate has an exit
     pub entrance-found : Sought starts targets pending order pending′ order′ s Nothing → ⊥
-    entrance-found sought = let (t, c) = unfolded .entrance in sought .searched t (L .superbubble c)
+    entrance-found sought = let (t, c) = here .entrance in sought .searched t (L .superbubble c)
 
     module _ {t k : ℕ} (sought : Sought starts targets pending order pending′ order′ s (At t k)) where
       candidate : C (edges rows) s t
-      candidate = let (x, c) = unfolded .entrance in
+      candidate = let (x, c) = here .entrance in
           let e : t ≡ x = exit-unique (sought .searched .superbubble) (L .superbubble c) in rw e c
 
       front : Visited starts targets (take k order′) s t (length (take k order′))
@@ -58,7 +58,6 @@ module _ {G : Graph → Type 0} {C : CandidateSet} (L : CandidateLaws G C) {tabl
             best-room = room .best-room;
             next-room = omega (arith, room .next-long);
             out-room = omega (arith, room .out-long);
-            own = rw (front .first) (unfolded .own t candidate);
           }
 
       -- and is folded
@@ -100,14 +99,9 @@ module _ {way : Way} {table : Table} {exits next out : List ℕ} {budget s folde
     vertex : s < size (table .rows)
     vertex = omega (arith, turning .candidates .each)
 
-    -- the candidate is not folded yet
-    pub turning-unfolded : Unfolded (way .candidates) table out s
-    turning-unfolded =
-        record {
-          vertex = vertex;
-          entrance = (getD exits s 0, turning .candidates .sound s vertex (omega (arith, turning .candidates .each)));
-          own = λ t c. turns-own laws ok (turning .kind) (turning .turns) c;
-        }
+    -- s is the entrance of a candidate
+    pub turning-candidate : CandidateAt (way .candidates) table s
+    turning-candidate = record { vertex = vertex; entrance = (getD exits s 0, turning .candidates .sound s vertex (omega (arith, turning .candidates .each))) }
 
     -- the candidate is folded
     pub turning-more : {parents best pending′ order′ best′ next′ out′ : List ℕ} → folded < budget

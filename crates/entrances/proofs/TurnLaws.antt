@@ -116,10 +116,6 @@ module _ {way : Way} (laws : WayLaws way) {table : Table} (ok : SoundTable table
   apart-before i m v inner f =
       laws .candidates-lawful .apart kind (turns .fit i m .candidate) candidate (λ e. let l = item-below turns i m in omega arith) inner f
 
-  -- so the candidate still has its own counts
-  pub turns-own : (v : ℕ) → Interior (edges rows) s t v → getD out v 0 ≡ getD counts v 0
-  turns-own v inner = turns .untouched v (λ i m old. apart-before i m v old (inner .inside))
-
   module _ {order best best′ next′ out′ : List ℕ} {k : ℕ} (entrance : s < size rows) (visited : Visited (rows .starts) (rows .targets) order s t k)
       (done : KeptDone (way .candidates) (way .rule) table s t best next out best′ next′ out′) where
     new : List·Memᴰ (done .item) (turns .items ++ done .item ∷ [])

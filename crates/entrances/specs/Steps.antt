@@ -4,7 +4,6 @@ use mathlib.Core.Path.{_≡_}
 use mathlib.Core.List.{List}
 use lib.ListN.{length, getD}
 use Rattle.table.specs.Table.{Table, size, edges, SoundTable}
-use Rattle.bubble.specs.Superbubble.{Interior}
 use Rattle.parents.specs.Parents.{Parents}
 use Rattle.search.specs.Search.{Visited}
 use Rattle.rule.specs.Lists.{CandidateSet}
@@ -22,11 +21,10 @@ pub record Room (table : Table) (parents pending order best next out : List ℕ)
   pub next-long : length next ≡ size (table .rows)
   pub out-long : length out ≡ size (table .rows)
 
--- s is the entrance of a candidate, and the result has the candidate's own counts at its interior
-pub record Unfolded (C : CandidateSet) (table : Table) (out : List ℕ) (s : ℕ) : Type 0 where
+-- s is the entrance of a candidate
+pub record CandidateAt (C : CandidateSet) (table : Table) (s : ℕ) : Type 0 where
   pub vertex : s < size (table .rows)
   pub entrance : Entrance C (edges (table .rows)) s
-  pub own : (t : ℕ) → C (edges (table .rows)) s t → (v : ℕ) → Interior (edges (table .rows)) s t v → getD out v 0 ≡ getD (table .counts) v 0
 
 -- the candidate with the entrance s is folded: its exit, the visiting order of its U less the exit, and what is kept of it
 pub record EntranceFolded (C : CandidateSet) (R : Rule) (table : Table) (s : ℕ) (parents best next out pending′ order′ best′ next′ out′ : List ℕ) : Type 0 where

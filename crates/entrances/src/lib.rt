@@ -4,7 +4,7 @@ ghost use lib.ListN.{length};
 ghost use Rattle.table.specs.Table.{vertices};
 ghost use Rattle.rule.specs.Way.{the-fold};
 ghost use Rattle.entrances.specs.Turns.{Turning};
-ghost use Rattle.entrances.specs.Steps.{Room, Unfolded, EntranceFolded, NextEntrance};
+ghost use Rattle.entrances.specs.Steps.{Room, CandidateAt, EntranceFolded, NextEntrance};
 use search::Exit;
 use search::search;
 
@@ -32,10 +32,9 @@ fn fold_at(
         (now out)
         ⌝ }
     requires { ⌜
-        Unfolded
+        CandidateAt
         (the-fold .candidates)
         (record { rows = record { starts = now starts; targets = now targets }; counts = now counts })
-        (now out)
         s
         ⌝ }
     ensures { λ r.

@@ -6,7 +6,7 @@ use mathlib.Core.List.{List, [], _∷_, _++_, List·Memᴰ, List·Memᴰ·head, 
 use native.Mathlib.Numerals.{add-one}
 use native.Mathlib.Omega.{arith}
 use native.Mathlib.Decide.{ℕ-discrete}
-use lib.ListN.{length, getD, length-set}
+use lib.ListN.{length, getD, length-set, length-append}
 use lib.Seq.{getD-set-same, getD-set-other}
 use Rattle.table.specs.Limits.{read-limit}
 use Rattle.table.proofs.SumLaws.{count-most}
@@ -37,6 +37,12 @@ passing-some begun = omega arith
 passing-some (keeps r q) = omega arith
 passing-some (drops r n) = omega arith
 
+-- the path has fewer inner vertices than are passed
+pub inner-fewer : {visited next : List ℕ} {k : ℕ} {arm gone : List ℕ} {kept : ℕ} → Passing visited next k arm gone kept → length arm < k
+inner-fewer begun = omega arith
+inner-fewer (keeps {arm = arm} {kept = kept} r q) = omega (arith, inner-fewer r, length-append arm (kept ∷ []))
+inner-fewer (drops r n) = omega (arith, inner-fewer r)
+
 -- what is gone has a place after the entrance and before k
 pub gone-place : {visited next : List ℕ} {k : ℕ} {arm gone : List ℕ} {kept v : ℕ} → Passing visited next k arm gone kept → List·Memᴰ v gone
     → (i : ℕ) × (0 < i) × (i < k) × (getD visited i 0 ≡ v)
@@ -63,10 +69,10 @@ module _ {counts visited next out : List ℕ} (p : Siftable counts visited next 
   gone-sum r l = omega (arith, distinct-sum counts (gone-distinct r l) (λ v m. gone-below r l m), p .sum-fits)
 
   -- the entrance is passed
-  pub sift-one : (none : ℕ) → Sifted counts visited next out none 1 next out (getD next (getD visited 0 0) 0) 0
-  sift-one none = record { arm = []; gone = []; passing = begun; no-rows = refl; no-counts = refl; dropped-sum = refl }
+  pub sift-one : (none : ℕ) → Sifted counts visited next out none 1 next out (getD next (getD visited 0 0) 0) 0 0
+  sift-one none = record { arm = []; gone = []; passing = begun; no-rows = refl; no-counts = refl; how-many = refl; dropped-sum = refl }
 
-  module _ {none k : ℕ} {next′ out′ : List ℕ} {kept dropped : ℕ} (w : Sifted counts visited next out none k next′ out′ kept dropped) where
+  module _ {none k : ℕ} {next′ out′ : List ℕ} {kept inner dropped : ℕ} (w : Sifted counts visited next out none k next′ out′ kept inner dropped) where
     pub sift-next-room : length next′ ≡ length next
     sift-next-room = ap length (w .no-rows) ∙ length-puts next (w .gone) none
 
@@ -74,16 +80,17 @@ module _ {counts visited next out : List ℕ} (p : Siftable counts visited next 
     sift-out-room = ap length (w .no-counts) ∙ length-puts out (w .gone) 0
 
     module _ (l : k < length visited) where
-      pub sift-partable : Partable counts next′ out′ (getD visited k 0) dropped
-      sift-partable = record {
+      pub sift-partable : k < 18446744073709551615 → Partable counts next′ out′ (getD visited k 0) inner dropped
+      sift-partable k-fits = record {
         counted = p .below k l;
         next-room = omega (arith, p .below k l, p .next-room, sift-next-room);
         out-room = omega (arith, p .below k l, p .out-room, sift-out-room);
-        fits = omega (arith, w .dropped-sum, gone-sum (w .passing) (omega arith), count-most counts (getD visited k 0) (p .below k l), p .sum-fits);
+        inner-fits = omega (arith, k-fits, w .how-many, inner-fewer (w .passing));
+        dropped-fits = omega (arith, w .dropped-sum, gone-sum (w .passing) (omega arith), count-most counts (getD visited k 0) (p .below k l), p .sum-fits);
       }
 
-      pub sift-more : {next″ out″ : List ℕ} {kept″ dropped″ : ℕ} → Step counts next′ out′ none (getD visited k 0) kept dropped next″ out″ kept″ dropped″
-          → Sifted counts visited next out none (k + 1) next″ out″ kept″ dropped″
+      pub sift-more : {next″ out″ : List ℕ} {kept″ inner″ dropped″ : ℕ} → Step counts next′ out′ none (getD visited k 0) kept inner dropped next″ out″ kept″ inner″ dropped″
+          → Sifted counts visited next out none (k + 1) next″ out″ kept″ inner″ dropped″
       sift-more (keeps q) =
           let same : getD next′ (getD visited k 0) 0 ≡ getD next kept 0 =
           ap (λ xs. getD xs (getD visited k 0) 0) (w .no-rows) ∙ puts-other next (w .gone) none (next-new (w .passing) l) ∙ ap (λ v. getD next v 0) q in
@@ -93,6 +100,7 @@ module _ {counts visited next out : List ℕ} (p : Siftable counts visited next 
             passing = keeps (w .passing) q;
             no-rows = w .no-rows;
             no-counts = w .no-counts;
+            how-many = omega (arith, w .how-many, length-append (w .arm) (kept ∷ []));
             dropped-sum = w .dropped-sum;
           })
       sift-more (drops n) =
@@ -102,5 +110,6 @@ module _ {counts visited next out : List ℕ} (p : Siftable counts visited next 
             passing = drops (w .passing) n;
             no-rows = rw (w .no-rows);
             no-counts = rw (w .no-counts);
+            how-many = w .how-many;
             dropped-sum = omega (arith, w .dropped-sum);
           })

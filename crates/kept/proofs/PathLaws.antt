@@ -1,16 +1,17 @@
 -- Laws of the path by next along the visiting order: the order leads along it to the exit, and what is not on it is gone. Assumes nothing.
 use Prim.Native.Nat.{ℕ, _≤_, _<_}
-use mathlib.Core.Path.{_≡_, refl, sym, _∙_}
+use mathlib.Core.Path.{_≡_, refl, sym, ap, _∙_}
 use mathlib.Core.Logic.{_≢_, _⊎_, inl, inr, ⊎-elim}
 use mathlib.Core.List.{List, [], _∷_, _++_, List·Memᴰ, List·Memᴰ·head, List·Memᴰ·tail, List·Memᴰ·not-nil, List·Memᴰ·cases-cons}
 use mathlib.Core.List.{List·Memᴰ·append-cases, List·Memᴰ·eq-of-singleton, Memᴰ·append-left, Memᴰ·append-right}
 use native.Mathlib.Omega.{arith}
 use native.Mathlib.Decide.{ℕ-discrete}
 use lib.ListN.{length, getD}
-use Rattle.rule.specs.Lists.{Follows}
+use Rattle.rule.specs.Lists.{Follows, Follows.here, Follows.later}
 use Rattle.rule.specs.Tables.{count-of}
 use Rattle.rule.proofs.Following.{Begins, Begins.begins, follows-cases, follows-head}
 use Rattle.rule.proofs.ByNext.{ByNext, ByNext.last, ByNext.step, Passed, Passed.begun, Passed.further, passed-all}
+use Rattle.sharing.specs.Sharing.{onward}
 use Rattle.kept.specs.Steps.{Passing, Passing.begun, Passing.keeps, Passing.drops}
 use Rattle.kept.proofs.PassLaws.{gone-place}
 
@@ -22,15 +23,12 @@ pub by-next-follows : {next : ℕ → ℕ} {t v u w : ℕ} {l : List ℕ} → By
 by-next-follows (last q) f = ⊎-elim (λ h. rw (h .0) (q ∙ begins-with (h .1))) (λ g. absurd (List·Memᴰ·not-nil (follows-head g))) (follows-cases f)
 by-next-follows (step n r) f = ⊎-elim (λ h. rw (h .0) (begins-with (h .1))) (λ g. by-next-follows r g) (follows-cases f)
 
--- its first inner vertex
-pub by-next-first : {next : ℕ → ℕ} {t v : ℕ} {l : List ℕ} → ByNext next t v l → 0 < length l → (getD l 0 0 ≡ next v) × (next v ≢ t)
-by-next-first (last q) h = absurd (omega arith)
-by-next-first (step n r) h = (refl, n)
-
--- and there is one unless the bare edge is the path
-pub by-next-some : {next : ℕ → ℕ} {t v : ℕ} {l : List ℕ} → ByNext next t v l → next v ≢ t → List·Memᴰ (next v) l
-by-next-some (last q) n = absurd (n q)
-by-next-some (step m r) n = List·Memᴰ·head refl
+-- where each vertex from v along the arm to t is followed by its next, the arm is what stands onward from v
+pub arm-onward : (next : List ℕ) (t v : ℕ) (arm : List ℕ) → ((u w : ℕ) → Follows (v ∷ arm ++ (t ∷ [])) u w → getD next u 0 ≡ w) → onward next v (length arm) ≡ arm
+arm-onward next t v [] h = refl
+arm-onward next t v (x ∷ arm) h =
+    let first : getD next v 0 ≡ x = h v x here in
+    rw first (ap (λ l. x ∷ l) (arm-onward next t x arm (λ u w f. h u w (later f))))
 
 module _ {visited next : List ℕ} where
   arm-place : {k : ℕ} {arm gone : List ℕ} {kept v : ℕ} → Passing visited next k arm gone kept → List·Memᴰ v arm → (i : ℕ) × (i < k) × (getD visited i 0 ≡ v)

@@ -11,8 +11,7 @@ use Rattle.rule.specs.Fold.{Rule, Item, Fits}
 use Rattle.rule.specs.Tables.{count-of}
 use Rattle.rule.specs.Next.{no-row}
 
--- what is handed over: a table with its counts, a candidate with the visiting order of its U less its exit t, room for each vertex, and a result that has
--- the candidate's own counts at its interior
+-- what is handed over: a table with its counts, a candidate with the visiting order of its U less its exit t, and room for each vertex
 pub record Keepable (C : CandidateSet) (table : Table) (visited : List ℕ) (t : ℕ) (best next out : List ℕ) : Type 0 where
   pub counted : SoundTable table
   pub order : Visited (table .rows .starts) (table .rows .targets) visited (getD visited 0 0) t (length visited)
@@ -20,7 +19,6 @@ pub record Keepable (C : CandidateSet) (table : Table) (visited : List ℕ) (t :
   pub best-room : size (table .rows) ≤ length best
   pub next-room : size (table .rows) ≤ length next
   pub out-room : size (table .rows) ≤ length out
-  pub own : (v : ℕ) → Interior (edges (table .rows)) (getD visited 0 0) t v → getD out v 0 ≡ getD (table .counts) v 0
 
 -- what is left: the item of the candidate s, t; its kept path by `next`; its counts in `out`; and all else as it was
 pub record KeptDone (C : CandidateSet) (R : Rule) (table : Table) (s t : ℕ) (best next out best′ next′ out′ : List ℕ) : Type 0 where

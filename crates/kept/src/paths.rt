@@ -1,14 +1,17 @@
-// The kept path along the visiting order: backward to find each vertex's best child, forward to part the kept vertices from the dropped ones. In `next`
-// stands for each vertex of the kept path the vertex after it, and for each dropped one, of n vertices, n + 1, which says that it has no row.
+// The kept path along the visiting order: backward to find each vertex's best child, forward to part the kept vertices from the dropped ones, and along the
+// path to share what is dropped. In `next` stands for each vertex of the kept path the vertex after it, and for each dropped one, of n vertices, n + 1,
+// which says that it has no row.
 ghost use lib.ListN.{length, getD};
 ghost use Rattle.rule.specs.Way.{the-fold};
 ghost use Rattle.kept.specs.Steps.{Settleable, SettledFrom, Partable, Step, Siftable, Sifted};
 ghost use Rattle.kept.specs.Keeping.{Keepable, KeptDone};
 use crate::children::choose;
+use sharing::share;
 
-// The next vertex of the kept path, and the sum of the counts dropped so far.
+// The next vertex of the kept path, its inner vertices so far, and the sum of the counts dropped so far.
 pub struct Along {
     pub kept: u32,
+    pub inner: u64,
     pub dropped: u64,
 }
 
@@ -61,7 +64,7 @@ fn keep_or_drop(
     v: u32,
     along: Along,
 ) -> Along
-    requires { ⌜ Partable (now counts) (now next) (now out) v (along .dropped) ⌝ }
+    requires { ⌜ Partable (now counts) (now next) (now out) v (along .inner) (along .dropped) ⌝ }
     ensures { λ r.
         ⌜
         Step
@@ -71,10 +74,12 @@ fn keep_or_drop(
         rowless
         v
         (along .kept)
+        (along .inner)
         (along .dropped)
         (now (next .exit))
         (now (out .exit))
         (r .kept)
+        (r .inner)
         (r .dropped)
         ⌝ }
 {
@@ -82,6 +87,7 @@ fn keep_or_drop(
     if v == along.kept {
         return Along {
             kept: next[x],
+            inner: along.inner + 1,
             dropped: along.dropped,
         };
     }
@@ -90,6 +96,7 @@ fn keep_or_drop(
     out[x] = 0;
     Along {
         kept: along.kept,
+        inner: along.inner,
         dropped: along.dropped + own,
     }
 }
@@ -109,12 +116,14 @@ fn sift(counts: &[u64], visited: &[u32], next: &mut [u32], out: &mut [u64], rowl
         (now (next .exit))
         (now (out .exit))
         (r .kept)
+        (r .inner)
         (r .dropped)
         ⌝ }
 {
     let s = visited[0] as usize;
     let mut along = Along {
         kept: next[s],
+        inner: 0,
         dropped: 0,
     };
     let mut k = 1;
@@ -126,7 +135,7 @@ fn sift(counts: &[u64], visited: &[u32], next: &mut [u32], out: &mut [u64], rowl
 }
 
 // Keeps the best path of one candidate, whose U less its exit t is visited: `next` takes the vertex after each vertex of the path, and n + 1 for each
-// dropped one; `out` takes 0 for each dropped vertex, and the vertex after the entrance gets their counts.
+// dropped one; `out` takes 0 for each dropped vertex, and for each inner vertex of the path its count and its portion of theirs.
 pub fn keep(
     starts: &[u32],
     targets: &[u32],
@@ -166,11 +175,12 @@ pub fn keep(
     settle(starts, targets, counts, visited, t, best, next);
     let rowless = starts.len() as u32;
     let along = sift(counts, visited, next, out, rowless);
-    let dropped = along.dropped;
-    let s = visited[0] as usize;
-    let first = next[s];
-    if first != t {
-        let x = first as usize;
-        out[x] = counts[x] + dropped;
-    }
+    share(
+        counts,
+        next,
+        out,
+        visited[0],
+        along.inner,
+        along.dropped,
+    );
 }

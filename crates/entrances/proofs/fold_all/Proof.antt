@@ -9,7 +9,7 @@ use Rattle.rule.specs.Way.{the-fold}
 use Rattle.rule.proofs.TheFold.{the-fold-lawful}
 use Rattle.entrances.specs.Turns.{Turning}
 use Rattle.entrances.specs.Steps.{Room}
-use Rattle.entrances.proofs.EntranceLaws.{turning-to, turning-unfolded, turning-more}
+use Rattle.entrances.proofs.EntranceLaws.{turning-to, turning-candidate, turning-more}
 use Rattle.entrances.proofs.fold_all.Statement.{statement}
 use Rattle.entrances.proofs.fold_all.Tie as tie
 
@@ -49,7 +49,7 @@ loop-holds c = let pre = entry c .pre in
 fold-at-requires : tie.Need-fold-at-requires Inv-loop μ-loop
 fold-at-requires c κs = let inv = at-loop c .loop .inv in
     let inside = in-loop c .loop-test .taken in
-    (inv .0, turning-unfolded (inv .1) the-fold-lawful (inv .0 .counted) inside (inv .2 inside .0))
+    (inv .0, turning-candidate (inv .1) the-fold-lawful (inv .0 .counted) inside (inv .2 inside .0))
 
 add-folded : tie.Need-add-folded Inv-loop μ-loop
 add-folded c = let call = after-fold-at c .before in

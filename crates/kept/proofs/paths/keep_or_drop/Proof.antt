@@ -10,8 +10,11 @@ mul-t10 c = search needs
 slice-read-t12 : tie.Need-slice-read-t12
 slice-read-t12 c = search needs
 
+add-t13 : tie.Need-add-t13
+add-t13 c = search needs
+
 returns : tie.Need-returns
-returns c = keeps (c .before .if1 .taken)
+returns c = keeps (c .before .before .if1 .taken)
 
 mul-own : tie.Need-mul-own
 mul-own c = search needs
@@ -31,8 +34,8 @@ mul-out c = search needs
 slice-write-out : tie.Need-slice-write-out
 slice-write-out c = search needs
 
-add-t15 : tie.Need-add-t15
-add-t15 c = search needs
+add-t16 : tie.Need-add-t16
+add-t16 c = search needs
 
 same-length : tie.Need-same-length
 same-length c = search needs
@@ -49,6 +52,7 @@ keep-or-drop-spec =
     (tie.spec
     mul-t10
     slice-read-t12
+    add-t13
     returns
     mul-own
     shared-slice-read-own
@@ -56,7 +60,7 @@ keep-or-drop-spec =
     slice-write-next
     mul-out
     slice-write-out
-    add-t15
+    add-t16
     same-length
     same-length-2
     returns-2)

@@ -11,7 +11,7 @@ use Rattle.kept.proofs.paths.sift.Tie as tie
 
 abbrev Inv-loop : tie.InvT-loop
 Inv-loop counts visited next₀ out₀ rowless s along₀ k₀ next out along k =
-    (k ≤ length visited) × Sifted counts visited next₀ out₀ rowless k next out (along .kept) (along .dropped)
+    (k ≤ length visited) × Sifted counts visited next₀ out₀ rowless k next out (along .kept) (along .inner) (along .dropped)
 
 abbrev μ-loop : tie.MeasureT-loop
 μ-loop counts visited next₀ out₀ rowless s along₀ k₀ next out along k = length visited - k
@@ -58,7 +58,7 @@ shared-slice-read-keep-or-drop c = search needs
 
 keep-or-drop-requires : tie.Need-keep-or-drop-requires Inv-loop μ-loop
 keep-or-drop-requires c κs = let p = entry (after-shared-slice-known3 c) .pre in
-    sift-partable p (at-loop c .loop .inv .1) (c .before .before .before .loop-test .taken)
+    sift-partable p (at-loop c .loop .inv .1) (c .before .before .before .loop-test .taken) (search needs)
 
 add-k : tie.Need-add-k Inv-loop μ-loop
 add-k c = search needs
