@@ -175,12 +175,8 @@ pub fn keep(
     settle(starts, targets, counts, visited, t, best, next);
     let rowless = starts.len() as u32;
     let along = sift(counts, visited, next, out, rowless);
-    share(
-        counts,
-        next,
-        out,
-        visited[0],
-        along.inner,
-        along.dropped,
-    );
+    let inner = along.inner;
+    let dropped = along.dropped;
+    let s = visited[0];
+    share(counts, next, out, s, inner, dropped);
 }

@@ -39,6 +39,8 @@ use Rattle.judging.specs.Judging.{JudgeDone}
 use Rattle.judging.proofs.Determined.{judged-determined, judge-determined}
 use Rattle.candidates.specs.Candidates.{FindDone}
 use Rattle.candidates.proofs.FoundLaws.{found-determined}
+use Rattle.sharing.specs.Sharing.{Shared}
+use Rattle.sharing.proofs.Determined.{shared-determined}
 use Rattle.kept.specs.Keeping.{KeptDone}
 use Rattle.kept.proofs.DoneLaws.{kept-coincide}
 use Rattle.turns.specs.declared.Turned.{Turned}
@@ -175,6 +177,10 @@ pub find-coincides : {rows : Rows} {parents₁ pending₁ order₁ exits₁ pare
     → FindDone Candidate rows parents₁ pending₁ order₁ exits₁ found₁ → FindDone Candidate rows parents₂ pending₂ order₂ exits₂ found₂
     → (parents₁ ≡ parents₂) × (pending₁ ≡ pending₂) × (exits₁ ≡ exits₂) × (found₁ ≡ found₂)
 find-coincides = found-determined (the-fold-lawful .candidates-lawful)
+
+-- `sharing::share`
+pub share-coincides : {counts next out out₁ out₂ : List ℕ} {s k d : ℕ} → Shared counts next out s k d k out₁ → Shared counts next out s k d k out₂ → out₁ ≡ out₂
+share-coincides = shared-determined
 
 -- `kept::keep`, whatever stood in the best sums: all but these
 pub keep-coincides : {table : Table} {best best′ next out best₁ next₁ out₁ best₂ next₂ out₂ : List ℕ} {s t : ℕ}

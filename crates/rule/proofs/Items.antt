@@ -1,10 +1,11 @@
 -- Facts of items that fit a graph: arm and dropped are the interior, and no two items share a vertex of it. Assumes nothing.
 use Prim.Native.Nat.{ℕ}
-use mathlib.Core.Path.{_≡_}
-use mathlib.Core.Logic.{⊎-elim}
+use mathlib.Core.Path.{_≡_, subst}
+use mathlib.Core.Logic.{_⊎_, ⊎-elim}
 use mathlib.Core.List.{_++_, List·Memᴰ, List·Memᴰ·append-cases, Memᴰ·append-left, Memᴰ·append-right}
 use native.Mathlib.Decide.{ℕ-discrete}
-use Rattle.bubble.specs.Superbubble.{Interior, Superbubble}
+use Rattle.bubble.specs.Superbubble.{F.start, Interior, Superbubble}
+use Rattle.bubble.proofs.Facts.{exit-inside}
 use Rattle.bubble.proofs.Unique.{exit-unique}
 use Rattle.bubble.specs.Distinct.{Distinct}
 use Rattle.bubble.proofs.Pigeonhole.{distinct-append}
@@ -57,4 +58,15 @@ module _ {G : Graph → Type 0} {C : CandidateSet} {R : Rule} (L : CandidateLaws
       elim (ℕ-discrete (i .entrance) (j .entrance)) [
         | yes q ↦ item-unique f h q
         | no n ↦ absurd (L .apart g (f .candidate) (h .candidate) n a (b .inside))
+      ]
+
+  -- neither end of an item is interior to one
+  pub ends-outside : {i j : Item} {v : ℕ} → G E → Fits C R E c i → Fits C R E c j → (v ≡ i .entrance) ⊎ (v ≡ i .exit) → Interior E (j .entrance) (j .exit) v → ⊥
+  ends-outside {i} {j} {v} g f h end inner =
+      elim (ℕ-discrete (j .entrance) (i .entrance)) [
+        | yes q ↦
+            let same : j ≡ i = item-unique h f q in
+            let own : Interior E (i .entrance) (i .exit) v = subst (λ (x : Item). Interior E (x .entrance) (x .exit) v) same inner in
+            ⊎-elim (own .not-entrance) (own .not-exit) end
+        | no n ↦ L .apart g (h .candidate) (f .candidate) n inner (⊎-elim (λ q. rw q start) (λ q. rw q (exit-inside (item-superbubble f .bubbloid))) end)
       ]

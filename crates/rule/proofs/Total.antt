@@ -34,7 +34,7 @@ of-touched (j ∷ items) m =
 
 module _ {G : Graph → Type 0} {C : CandidateSet} {R : Rule} (L : CandidateLaws G C) (M : RuleLaws R) {E : Graph} {c : Counts} where
   -- all that is dropped is added again
-  whole-dropped : (i : Item) → Fits C R E c i → (l : List ℕ) → R .keeps E c (i .entrance) (i .exit) l
+  pub whole-dropped : (i : Item) → Fits C R E c i → (l : List ℕ) → R .keeps E c (i .entrance) (i .exit) l
       → total (R .portion (sum c (i .dropped)) (length l)) (length l) ≡ sum c (i .dropped)
   whole-dropped i f [] k = sym (sum-zero (i .dropped) (λ v m. M .bare (item-superbubble L M f) k v (dropped-inner L M f m)))
   whole-dropped i f (x ∷ l) k = M .whole (sum c (i .dropped)) (suc (length l)) (omega arith)

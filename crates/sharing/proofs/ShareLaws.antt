@@ -32,16 +32,16 @@ module _ {counts next out : List ℕ} {s k d : ℕ} (p : Shareable counts next o
   abbrev here : ℕ
   here = getD (onward next s k) j 0
 
-  -- where the path stands before place j there is a next vertex
+  -- where the path stands before place j, and the vertex of place j
   pub before-below : getD (s ∷ onward next s k) j 0 < length counts
   before-below = p .below j (omega (arith, length-onward next s k))
 
   pub here-below : here < length counts
   here-below = p .below (suc j) (omega (arith, length-onward next s k))
 
-  -- its count and its portion fit
-  pub portion-fits : getD counts here 0 + to-each d k j ≤ read-limit + read-limit
-  portion-fits = omega (arith, to-each-most d k j h, p .dropped-fits, count-most counts here here-below, p .sum-fits)
+  -- a count and the portion of this place fit
+  pub portion-fits : (v : ℕ) → v < length counts → getD counts v 0 + to-each d k j ≤ read-limit + read-limit
+  portion-fits v l = omega (arith, to-each-most d k j h, p .dropped-fits, count-most counts v l, p .sum-fits)
 
   -- it stands one place after where the path stood before
   pub here-stands : here ≡ getD (s ∷ onward next s k) (j + 1) 0

@@ -39,8 +39,9 @@ pub fn share(counts: &[u64], next: &[u32], out: &mut [u64], s: u32, k: u64, drop
     let mut v = s as usize;
     let mut j = 0;
     while j < k {
-        v = next[v] as usize;
-        out[v] = counts[v] + portion(quotient, remainder, j);
+        let u = next[v] as usize;
+        out[u] = counts[u] + portion(quotient, remainder, j);
+        v = u;
         j += 1;
     }
 }

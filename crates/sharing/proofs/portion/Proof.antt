@@ -9,7 +9,7 @@ add-result : tie.Need-add-result
 add-result c = search needs
 
 returns : tie.Need-returns
-returns c = omega (arith, one-more-first (c .before .args .remainder) (c .before .args .j) (c .if1 .taken))
+returns c = omega (arith, one-more-first (c .before .args .remainder) (c .before .args .j) (omega (arith, c .if1 .taken)))
 
 returns-2 : tie.Need-returns-2
 returns-2 c = omega (arith, one-more-after (c .before .args .remainder) (c .before .args .j) (omega (arith, c .if1 .left)))

@@ -1,10 +1,12 @@
 -- `sharing::share` meets its contract. The loop's invariant: the first j inner vertices have their portion, and v is the one before place j. Assumes nothing.
-use Prim.Native.Nat.{_-_, _≤_, _<_}
+use Prim.Native.Nat.{_+_, _-_, _≤_, _<_}
 use mathlib.Core.Path.{_≡_, refl, sym, ap, _∙_}
 use mathlib.Core.List.{_∷_}
 use native.Mathlib.Omega.{arith}
 use lib.ListN.{length, getD}
 use borrow.Author.Needs.{needs}
+use Rattle.table.specs.Limits.{read-limit}
+use Rattle.rule.specs.Fold.{to-each}
 use Rattle.sharing.specs.Sharing.{onward, Shared}
 use Rattle.sharing.proofs.ShareLaws.{onward-next, share-none, before-below, here-below, portion-fits, here-stands, share-more}
 use Rattle.sharing.proofs.share.Statement.{statement}
@@ -29,13 +31,12 @@ next-here : (c : tie.In-loop Inv-loop μ-loop) → let args = entry c .args in
 next-here c = let args = entry c .args in
     ap (λ x. getD (args .next .now) x 0) (c .before .loop .inv .1) ∙ sym (onward-next (args .next .now) (args .s) (args .k) (c .before .loop .j) (c .loop-test .taken))
 
--- it has room
-next-below : (c : tie.In-loop Inv-loop μ-loop) → getD (entry c .args .next .now) (c .before .loop .v) 0 < length (entry c .args .counts .now)
-next-below c = omega (arith, next-here c, here-below (entry c .pre) (c .before .loop .j) (c .loop-test .taken))
-
--- as the vertex before it has
-before-room : (c : tie.In-loop Inv-loop μ-loop) → c .before .loop .v < length (entry c .args .next .now)
-before-room c = omega (arith, c .before .loop .inv .1, before-below (entry c .pre) (c .before .loop .j) (c .loop-test .taken), entry c .pre .next-room)
+-- where the path stands and the next vertex are vertices
+on-path : (c : tie.In-loop Inv-loop μ-loop) → let counts = entry c .args .counts .now in
+    (c .before .loop .v < length counts) × (getD (entry c .args .next .now) (c .before .loop .v) 0 < length counts)
+on-path c = let j = c .before .loop .j in
+    let inside = c .loop-test .taken in
+    (omega (arith, c .before .loop .inv .1, before-below (entry c .pre) j inside), omega (arith, next-here c, here-below (entry c .pre) j inside))
 
 returns : tie.Need-returns Inv-loop μ-loop
 returns c = let bare : c .before .before .before .before .args .k ≡ 0 = c .if1 .taken in rw bare share-none
@@ -49,34 +50,42 @@ rem-remainder c = omega (arith, c .if1 .left)
 loop-holds : tie.Need-loop-holds Inv-loop μ-loop
 loop-holds c = (omega arith, refl, share-none)
 
-mul-v : tie.Need-mul-v Inv-loop μ-loop
-mul-v c = search (needs, before-room c)
+mul-u : tie.Need-mul-u Inv-loop μ-loop
+mul-u c = search (needs, on-path c)
 
-shared-slice-read-v : tie.Need-shared-slice-read-v Inv-loop μ-loop
-shared-slice-read-v c = before-room (c .before)
+shared-slice-read-u : tie.Need-shared-slice-read-u Inv-loop μ-loop
+shared-slice-read-u c = omega (arith, on-path (c .before), entry (c .before) .pre .next-room)
 
-cast-v : tie.Need-cast-v Inv-loop μ-loop
-cast-v c = omega (arith, c .shared-slice-known3 .given (c .before .before .loop .v))
+cast-u : tie.Need-cast-u Inv-loop μ-loop
+cast-u c = omega (arith, c .shared-slice-known3 .given (c .before .before .loop .v))
 
 mul-out : tie.Need-mul-out Inv-loop μ-loop
-mul-out c = search (needs, next-below (c .before))
+mul-out c = search (needs, on-path (c .before))
 
 shared-slice-read-out : tie.Need-shared-slice-read-out Inv-loop μ-loop
-shared-slice-read-out c = next-below (c .before .before)
+shared-slice-read-out c = omega (arith, on-path (c .before .before))
+
+-- a count and the portion fit, where the path stands and at the next vertex
+fits : (c : tie.In-loop Inv-loop μ-loop) → let args = entry c .args in
+    let counts = args .counts .now in
+    let v = c .before .loop .v in
+    let u = getD (args .next .now) v 0 in
+    let portion = to-each (args .dropped) (args .k) (c .before .loop .j) in
+    (getD counts v 0 + portion ≤ read-limit + read-limit) × (getD counts u 0 + portion ≤ read-limit + read-limit)
+fits c = let fit = portion-fits (entry c .pre) (c .before .loop .j) (c .loop-test .taken) in
+    (fit _ (on-path c .0), fit _ (on-path c .1))
 
 portion-requires : tie.Need-portion-requires Inv-loop μ-loop
-portion-requires c κs = let at = c .before .before in
-    omega (arith, portion-fits (entry at .pre) (at .before .loop .j) (at .loop-test .taken))
+portion-requires c κs = omega (arith, fits (c .before .before))
 
 add-out : tie.Need-add-out Inv-loop μ-loop
-add-out c = let at = in-loop c in
-    rw (next-here at) (omega (arith, portion-fits (entry at .pre) (at .before .loop .j) (at .loop-test .taken), c .portion .ensures))
+add-out c = omega (arith, fits (in-loop c), c .portion .ensures)
 
 mul-out-2 : tie.Need-mul-out-2 Inv-loop μ-loop
-mul-out-2 c = search (needs, next-below (in-loop c))
+mul-out-2 c = search (needs, on-path (in-loop c))
 
 slice-write-out : tie.Need-slice-write-out Inv-loop μ-loop
-slice-write-out c = omega (arith, next-below (in-loop c), entry (in-loop c) .pre .out-room, in-loop c .before .loop .inv .2 .same-out)
+slice-write-out c = omega (arith, on-path (in-loop c), entry (in-loop c) .pre .out-room, in-loop c .before .loop .inv .2 .same-out)
 
 add-j : tie.Need-add-j Inv-loop μ-loop
 add-j c = search needs
@@ -108,9 +117,9 @@ share-spec =
     div-quotient
     rem-remainder
     loop-holds
-    mul-v
-    shared-slice-read-v
-    cast-v
+    mul-u
+    shared-slice-read-u
+    cast-u
     mul-out
     shared-slice-read-out
     portion-requires

@@ -15,7 +15,7 @@ entry c = c .before .before .before .before .before .before .before .before .bef
 abbrev after-settle : tie.After-sift-arg2 → tie.After-settle
 after-settle c = c .before .before .before .before .before .before
 
-abbrev after-sift : tie.After-shared-slice-known5 → tie.After-sift
+abbrev after-sift : tie.After-share-arg2 → tie.After-sift
 after-sift c = c .before .before .before .before .before .before .before
 
 -- n + 1, as the code says it
@@ -32,8 +32,8 @@ sift-requires : tie.Need-sift-requires
 sift-requires c κs = let settle = after-settle c .settle in
     keep-siftable (entry (after-settle c .before) .pre) (settle .kept .1 .1 .1 .1 .1 .0) (settle .kept .1 .1 .1 .1 .1 .1 .0) (settle .ensures)
 
-shared-slice-read-share : tie.Need-shared-slice-read-share
-shared-slice-read-share c = search needs
+shared-slice-read-s : tie.Need-shared-slice-read-s
+shared-slice-read-s c = search needs
 
 share-requires : tie.Need-share-requires
 share-requires c κs =
@@ -65,7 +65,7 @@ keep-spec =
     settle-requires
     cast-rowless
     sift-requires
-    shared-slice-read-share
+    shared-slice-read-s
     share-requires
     same-length
     same-length-2
