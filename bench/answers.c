@@ -334,6 +334,10 @@ void compare_answers(void) {
         make_arms(300, t);
         each_call();
     }
+    for (usize inner = 1; inner <= 40; inner++) {
+        make_two_arms(300, inner);
+        compare_budgets();
+    }
     compare_choices();
     compare_limits();
     // A side that takes a number far too large reads far outside of what it was lent, and may not come back.

@@ -189,6 +189,10 @@ static void compare(void) {
     list_and_fold();
     make_layers(2048);
     fold(ALL);
+    for (usize inner = 1; inner <= 64; inner *= 64) {
+        make_two_arms(2048, inner);
+        fold(ALL);
+    }
     make_nested(64);
     look_load_and_write();
     row("judge, each pair", gohardim_judges_each, plain_judges_each, table.n * table.n);

@@ -45,6 +45,7 @@ void make_cycle(usize n);
 void make_comb(usize n);
 void make_nested(usize n);
 void make_layers(usize n);
+void make_two_arms(usize n, usize inner);
 void make_random(const char *name, usize n, usize m, _Bool cycles);
 void make_graph(char letter);
 void make_superbubbles(usize n);

@@ -309,7 +309,9 @@ static usize find_candidates(const u32 *starts, const u32 *targets, usize n, con
     return found;
 }
 
-// Keeps the best path through the visited vertices to t: the next vertex of each kept one, n + 1 for a dropped one.
+// Keeps the best path through the visited vertices to t: the next vertex of each kept one, n + 1 for a dropped one. The
+// inner vertices of the path share what is dropped: to each the quotient, and to the first ones, as many as the
+// remainder, one more.
 static void keep_path(const u32 *starts, const u32 *targets, const u64 *counts, usize n, const u32 *visited,
                       usize visited_len, u32 t, u64 *best, u32 *next, u64 *counts2) {
     for (usize k = visited_len; k > 0; k--) {
@@ -327,19 +329,26 @@ static void keep_path(const u32 *starts, const u32 *targets, const u64 *counts, 
         best[v] = gain;
         next[v] = child;
     }
-    u32 first = next[visited[0]], kept = first;
-    u64 dropped = 0;
+    u32 kept = next[visited[0]];
+    u64 inner = 0, dropped = 0;
     for (usize k = 1; k < visited_len; k++) {
         u32 v = visited[k];
         if (v == kept) {
             kept = next[v];
+            inner++;
         } else {
             next[v] = n + 1;
             counts2[v] = 0;
             dropped += counts[v];
         }
     }
-    if (first != t) counts2[first] = counts[first] + dropped;
+    if (inner == 0) return;
+    u64 quotient = dropped / inner, remainder = dropped % inner;
+    u32 v = visited[0];
+    for (u64 j = 0; j < inner; j++) {
+        v = next[v];
+        counts2[v] = counts[v] + quotient + (j < remainder);
+    }
 }
 
 // Writes the edges that stay: of a row all where next is n, else the one to next, or none.

@@ -82,6 +82,24 @@ void make_layers(usize n) {
     make("layers", n, 1000);
 }
 
+// Superbubbles one after the other, as many as there is room for, each with two arms of `inner` vertices.
+void make_two_arms(usize n, usize inner) {
+    static char name[16];
+    snprintf(name, sizeof name, "arms of %lu", inner);
+    u32 s = 0;
+    for (u32 t; (t = s + 2 * inner + 1) < n; s = t)
+        for (u32 arm = 0; arm < 2; arm++) {
+            u32 at = s;
+            for (u32 k = 0; k < inner; k++) {
+                u32 to = s + 1 + arm * inner + k;
+                edge(at, to);
+                at = to;
+            }
+            edge(at, t);
+        }
+    make(name, s + 1, 1000);
+}
+
 // Puts `inner` fresh vertices between s and t: two or three arms side by side, each a row of vertices with more of the
 // same between two of them.
 static u32 fresh;
