@@ -143,7 +143,9 @@ gohardim_u32 gohardim_judge(const gohardim_u32 *starts, gohardim_size starts_len
 //
 // Folded are the outermost superbubbles with an interior, by rising entrance: of each the path with the largest sum of
 // inner counts is kept (of equal ones that with the smaller vertex where they first differ), and the counts beside it
-// are added to its first inner vertex. The vertices keep their numbers, and the sum of the counts does not change.
+// are shared over its inner vertices: their sum divided by how many these are, and one more for each of the first ones
+// from the entrance on, as many as the remainder. The vertices keep their numbers, and the sum of the counts does not
+// change.
 // Hands out in *folded how many were folded, in *left how many can still be folded in the second table, and in *edges
 // how many edges that has. Stores the second table at the front of starts2, targets2 and counts2: n + 1, *edges and n
 // numbers. The rest of the three stays as it was.

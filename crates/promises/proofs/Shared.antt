@@ -65,3 +65,7 @@ module _ {table table′ : Table} {budget : ℕ} (ok : Foldable table) (call : F
     -- and each dropped vertex has 0.
     pub dropped-have-none : (v : ℕ) → List·Memᴰ v (i .dropped) → getD (table′ .counts) v 0 ≡ 0
     dropped-have-none = applied .emptied i m
+
+-- So it is in the worked fold of docs/RULES.md, A shared arm: 3 over two vertices is 2 and 1.
+pub three-over-two : (to-each 3 2 0 ≡ 2) × (to-each 3 2 1 ≡ 1)
+three-over-two = (omega (arith, one-more-first 1 0 (omega arith)), omega (arith, one-more-after 1 1 (omega arith)))
