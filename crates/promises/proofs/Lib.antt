@@ -4,6 +4,7 @@ pub mod Demand1
 pub mod Demand2
 pub mod Demand3
 pub mod Shared
+pub mod SharedArm
 pub mod Printed
 pub mod Runs
 pub mod Coincide

@@ -196,7 +196,7 @@ same-pairs (p ∷ ps) (q ∷ qs) t =
     λ i. (eqb→eq (p .0) (q .0) first i, eqb→eq (p .1) (q .1) second i) ∷ same-pairs ps qs rest i
 
 -- a table is well-formed, and its pairs are the computed superbubbles, by rising entrance
-unfoldable graph-test : Example → Bool
+unfoldable pub graph-test : Example → Bool
 unfolding superbubbles edge-test sound-test
 graph-test g = sound-test (g .rows) && (same-test (superbubbles (edge-test (g .rows)) (size (g .rows))) (g .pairs) && rising-test (g .pairs))
 
@@ -209,7 +209,7 @@ holds-where : {P : Type 0} (b : Bool) → Decides P b → T b → P
 holds-where true d t = proved d
 holds-where false d t = absurd t
 
-graph-holds : (g : Example) → T (graph-test g) → RightlyListed g
+pub graph-holds : (g : Example) → T (graph-test g) → RightlyListed g
 unfolding graph-test
 graph-holds g t =
     let found = superbubbles (edge-test (g .rows)) (size (g .rows)) in

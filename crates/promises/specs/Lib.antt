@@ -5,3 +5,4 @@ pub mod RoundTrip
 pub mod InARow
 pub mod Calls
 pub mod Runs
+pub mod Worked
