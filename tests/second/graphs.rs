@@ -6,6 +6,7 @@ use std::collections::BTreeSet;
 
 pub type Edge = (usize, usize);
 
+#[derive(Clone)]
 pub struct Graph {
     pub name: &'static str,
     edges: &'static [Edge],
@@ -49,6 +50,10 @@ pub const TWELVE: [Graph; 12] = [
     ),
     graph("L", &[(0, 1), (0, 2), (1, 2)], &[3, 0, 3], &[(0, 2)]),
 ];
+
+/// The table of docs/RULES.md, Worked folds, A shared arm.
+pub const SHARED: Graph =
+    graph("shared", &[(0, 1), (0, 3), (1, 2), (2, 4), (3, 4)], &[5, 4, 3, 3, 5], &[(0, 4), (1, 2)]);
 
 impl Graph {
     pub fn table(&self) -> Table {

@@ -70,7 +70,7 @@ const USAGE: &str = "usage:
   second self-test [SEED]      try the second program alone, as `compare` does as well
   second case NUMBER [SEED]    run one case again, of any operation or program: what is asked, the
                                answer that is expected, the one that comes, and where they differ
-  second examples FOLDER       write the twelve graphs A to L as images
+  second examples FOLDER       write the twelve graphs A to L and the shared arm as images
 NUMBER is that of a case in the line of its failure. SEED is a number; 1 where there is none.";
 
 fn main() -> ExitCode {

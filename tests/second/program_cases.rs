@@ -4,7 +4,7 @@
 use crate::cases::{resized, Cases};
 use crate::damages::{self, OF_IMAGE, OF_TABLE};
 use crate::faults::story::Step;
-use crate::graphs::{self, lettered, TWELVE};
+use crate::graphs::{self, lettered, SHARED, TWELVE};
 use crate::image;
 use crate::messages::{
     of_fold, of_step, unread, words_of, IS_FOLDER, NO_FILE, NO_FOLDER, TOO_LONG,
@@ -177,6 +177,8 @@ impl Cases {
         self.add_run("an empty file beside an old file", over(Vec::new()));
         let long = resized(of_letter("J"), 100_000);
         self.add_run("J, with 100,000 bytes, beside an old file", over(long));
+        self.add_run("the worked fold of a shared arm", over(image::of_table(&SHARED.table())));
+        self.begins("folded 1 left 0 edges 3\n");
         let same = ProgramRun::fold(1, "in.sbt", "in.sbt", file("in.sbt", of_letter("J")));
         self.add_run("J, IN and OUT are one", same);
         let same = ProgramRun::fold(1, "in.sbt", "in.sbt", file("in.sbt", of_letter("E")));

@@ -4,7 +4,7 @@
 
 use crate::answers;
 use crate::fold::Folded;
-use crate::graphs::{self, lettered, Edge, TWELVE};
+use crate::graphs::{self, lettered, Edge, SHARED, TWELVE};
 use crate::image::Room;
 use crate::operations::Operation;
 use crate::table::{Table, LARGEST_SUM};
@@ -118,12 +118,13 @@ fn folds() -> Vec<Worked> {
 
 /// Folds by which several inner vertices get reads.
 fn shares() -> Vec<Worked> {
-    let mut shares = two_arms(
+    let mut shares = vec![list("a shared arm", &SHARED.table(), SHARED.list)];
+    shares.extend(two_arms(
         "3 reads over 1 and 2: 2 and 1",
         [&[0, 1, 2, 4], &[0, 3, 4]],
         &[5, 4, 3, 3, 5],
         &[5, 6, 4, 0, 5],
-    );
+    ));
     shares.extend(two_arms(
         "8 reads over 4, 3 and 1: 3, 3 and 2",
         [&[0, 4, 3, 1, 5], &[0, 2, 5]],
