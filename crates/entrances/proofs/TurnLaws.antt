@@ -9,7 +9,7 @@ use native.Mathlib.Decide.{ℕ-discrete, decLt}
 use native.Mathlib.Omega.{arith}
 use lib.ListN.{length, getD, take, length-take, length-append, length-map, drop, take-append-drop}
 use lib.Seq.{take-all, take-append-le}
-use Rattle.table.specs.Table.{Rows, Table, size, edges, SoundTable}
+use Rattle.table.specs.Table.{Table, size, edges, SoundTable}
 use Rattle.table.proofs.RowLaws.{edges-below}
 use Rattle.bubble.specs.Superbubble.{F, Interior}
 use Rattle.bubble.proofs.Facts.{exit-inside}
@@ -17,7 +17,7 @@ use Rattle.bubble.proofs.Pigeonhole.{getD-in}
 use Rattle.bubble.proofs.Number.{inside-below}
 use Rattle.parents.proofs.OccurrenceLaws.{in-decided}
 use Rattle.search.specs.Search.{Visited}
-use Rattle.rule.specs.Lists.{Graph, sum, Follows}
+use Rattle.rule.specs.Lists.{sum, Follows}
 use Rattle.rule.specs.Kept.{Arm}
 use Rattle.rule.specs.Fold.{Item, Fits}
 use Rattle.rule.specs.Way.{Way}

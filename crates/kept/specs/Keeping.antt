@@ -31,7 +31,7 @@ pub record KeptDone (C : CandidateSet) (R : Rule) (table : Table) (s t : ℕ) (b
   pub off-path : (v : ℕ) → List·Memᴰ v (item .dropped) → getD next′ v 0 ≡ no-row (size (table .rows))
   -- a vertex that is not in U, or is the exit
   pub elsewhere : (v : ℕ) → (F (edges (table .rows)) s t v → v ≡ t) → getD next′ v 0 ≡ getD next v 0
-  -- the counts of the dropped vertices are added to the kept ones
+  -- each kept inner vertex gets its portion of the dropped counts
   pub added : (j : ℕ) → j < length (item .arm)
       → getD out′ (getD (item .arm) j 0) 0
       ≡ getD (table .counts) (getD (item .arm) j 0) 0 + R .portion (sum (count-of (table .counts)) (item .dropped)) (length (item .arm)) j

@@ -1,7 +1,5 @@
 -- The fold of docs/RULES.md is a lawful way of folding. Assumes nothing.
-use Prim.Native.Nat.{ℕ}
 use native.Mathlib.Omega.{arith}
-use Rattle.table.specs.Table.{Rows, edges}
 use Rattle.bubble.specs.Cycle.{Cyclic}
 use Rattle.rule.specs.Lists.{Graph}
 use Rattle.rule.specs.Fold.{NoCycle}

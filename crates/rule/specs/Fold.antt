@@ -67,7 +67,7 @@ module _ (C : CandidateSet) (R : Rule) where
     pub fit : (i : Item) → List·Memᴰ i items → Fits E c i
     -- every edge that does not have both its ends in one folded U stays
     pub edges : (u v : ℕ) → E′ u v ↔ (E u v × ((i : Item) → List·Memᴰ i items → Stays E (i .entrance) (i .exit) (i .arm) u v))
-    -- the counts of the dropped vertices are added to the kept ones
+    -- each kept inner vertex gets its portion of the dropped counts
     pub added : (i : Item) → List·Memᴰ i items → (j : ℕ) → j < length (i .arm)
         → c′ (getD (i .arm) j 0) ≡ c (getD (i .arm) j 0) + R .portion (sum c (i .dropped)) (length (i .arm)) j
     -- a dropped vertex has count 0; that it has no edge follows

@@ -1,5 +1,4 @@
 -- A way of folding: which graphs it takes, and what is asked for that; its candidates; its rule. `the-fold` is that of docs/RULES.md, Fold. Assumes nothing.
-use Prim.Native.Nat.{ℕ}
 use mathlib.Core.List.{List, [], _∷_}
 use Rattle.table.specs.Verdict.{Demand}
 use Rattle.table.specs.Table.{Rows, edges}
