@@ -62,7 +62,7 @@ module _ {C : CandidateSet} {table : Table} {visited : List ℕ} {t : ℕ} {best
       let (f, n) = inside (p .order) i l in
       rw (← q) (record { inside = f; not-entrance = λ e. omega (arith, p .order .apart i 0 l (omega arith) e); not-exit = n })
 
-  module _ {none : ℕ} {next′ out₁ : List ℕ} {kept inner dropped : ℕ} (one-more : none ≡ no-row (size rows))
+  module _ {none : ℕ} {next′ out₁ : List ℕ} {kept inner dropped : ℕ} (rowless-is : none ≡ no-row (size rows))
       (w : Sifted counts visited settled′ out none (length visited) next′ out₁ kept inner dropped) where
     by-next : ByNext (count-of settled′) t (getD visited 0 0) (w .arm)
     by-next = passing-path (λ i l. inside (p .order) i l .1)
@@ -136,7 +136,7 @@ module _ {C : CandidateSet} {table : Table} {visited : List ℕ} {t : ℕ} {best
       on-path = on-path;
       off-path = λ v m.
           let lost = gone-listed .1 .holds v .0 m in
-          rw (w .no-rows, puts-listed settled′ (w .gone) none lost (omega (arith, gone-below keep-siftable (w .passing) (omega arith) lost, p .counted .count-each, p .next-room))) one-more;
+          rw (w .no-rows, puts-listed settled′ (w .gone) none lost (omega (arith, gone-below keep-siftable (w .passing) (omega arith) lost, p .counted .count-each, p .next-room))) rowless-is;
       elsewhere = λ v h.
           let off : (i : ℕ) → i < length visited → getD visited i 0 ≡ v → ⊥ = λ i l q. let (f, n) = inside (p .order) i l in n (q ∙ h (rw q at f)) in
           rw (w .no-rows) (puts-other settled′ (w .gone) none (λ m. let (i, a, b, q) = gone-place (w .passing) m in off i b q) ∙ g .elsewhere v (λ i. off (i .place) (i .inside) (i .stands)));

@@ -37,12 +37,12 @@ module _ {table table′ : Table} {budget : ℕ} (ok : Foldable table) (call : F
     inner-number = length (i .arm)
 
     -- The first inner vertices in path order, as many as the remainder, get the quotient and one more each,
-    pub first-ones : (j : ℕ) → j < length (i .arm) → j < dropped-sum % inner-number
+    pub first-ones : (j : ℕ) → j < inner-number → j < dropped-sum % inner-number
         → getD (table′ .counts) (getD (i .arm) j 0) 0 ≡ getD (table .counts) (getD (i .arm) j 0) 0 + (dropped-sum / inner-number + 1)
     first-ones j h l = omega (arith, applied .added i m j h, one-more-first (dropped-sum % inner-number) j l)
 
     -- and the others the quotient.
-    pub other-ones : (j : ℕ) → j < length (i .arm) → dropped-sum % inner-number ≤ j
+    pub other-ones : (j : ℕ) → j < inner-number → dropped-sum % inner-number ≤ j
         → getD (table′ .counts) (getD (i .arm) j 0) 0 ≡ getD (table .counts) (getD (i .arm) j 0) 0 + dropped-sum / inner-number
     other-ones j h l = omega (arith, applied .added i m j h, one-more-after (dropped-sum % inner-number) j l)
 

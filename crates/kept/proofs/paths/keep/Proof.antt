@@ -19,8 +19,8 @@ abbrev after-sift : tie.After-share-arg2 → tie.After-sift
 after-sift c = c .before .before .before .before .before .before .before
 
 -- n + 1, as the code says it
-one-more : (c : tie.Start) → length (c .args .starts .now) ≡ (length (c .args .starts .now) - 1) + 1
-one-more c = omega (arith, c .pre .counted .well-formed .some)
+rowless-is : (c : tie.Start) → length (c .args .starts .now) ≡ (length (c .args .starts .now) - 1) + 1
+rowless-is c = omega (arith, c .pre .counted .well-formed .some)
 
 settle-requires : tie.Need-settle-requires
 settle-requires c κs = keep-settleable (entry c .pre)
@@ -39,7 +39,7 @@ share-requires : tie.Need-share-requires
 share-requires c κs =
     let settled = after-settle (after-sift c .before) in
     let st = entry (settled .before) in
-    keep-shareable (st .pre) (settled .settle .kept .1 .1 .1 .1 .1 .0) (settled .settle .kept .1 .1 .1 .1 .1 .1 .0) (settled .settle .ensures) (one-more st) (after-sift c .sift .ensures)
+    keep-shareable (st .pre) (settled .settle .kept .1 .1 .1 .1 .1 .0) (settled .settle .kept .1 .1 .1 .1 .1 .1 .0) (settled .settle .ensures) (rowless-is st) (after-sift c .sift .ensures)
 
 same-length : tie.Need-same-length
 same-length c = search needs
@@ -55,7 +55,7 @@ returns c =
     let shared = c .before .before in
     let settled = after-settle (after-sift (shared .before) .before) in
     let st = entry (settled .before) in
-    keep-done (st .pre) (settled .settle .kept .1 .1 .1 .1 .1 .0) (settled .settle .kept .1 .1 .1 .1 .1 .1 .0) (settled .settle .ensures) (one-more st)
+    keep-done (st .pre) (settled .settle .kept .1 .1 .1 .1 .1 .0) (settled .settle .kept .1 .1 .1 .1 .1 .1 .0) (settled .settle .ensures) (rowless-is st)
     (after-sift (shared .before) .sift .ensures) (shared .share .ensures)
 
 pub keep-spec : {M : Type 1} → statement M
