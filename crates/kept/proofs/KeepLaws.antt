@@ -23,6 +23,7 @@ use Rattle.rule.proofs.Arms.{inner-distinct}
 use Rattle.rule.specs.Next.{no-row, Settled}
 use Rattle.rule.proofs.ByNext.{ByNext, by-next-kept}
 use Rattle.sharing.specs.Sharing.{onward, Shareable, Shared}
+use Rattle.kept.specs.declared.paths.Along.{Along}
 use Rattle.kept.specs.Steps.{Settleable, SettledFrom, Siftable, Sifted}
 use Rattle.kept.specs.Keeping.{Keepable, KeptDone}
 use Rattle.kept.proofs.OrderLaws.{inside, visit-place, visited-below, child-later}
@@ -62,8 +63,8 @@ module _ {C : CandidateSet} {table : Table} {visited : List ℕ} {t : ℕ} {best
       let (f, n) = inside (p .order) i l in
       rw (← q) (record { inside = f; not-entrance = λ e. omega (arith, p .order .apart i 0 l (omega arith) e); not-exit = n })
 
-  module _ {none : ℕ} {next′ out₁ : List ℕ} {kept inner dropped : ℕ} (rowless-is : none ≡ no-row (size rows))
-      (w : Sifted counts visited settled′ out none (length visited) next′ out₁ kept inner dropped) where
+  module _ {none : ℕ} {next′ out₁ : List ℕ} {along : Along} (rowless-is : none ≡ no-row (size rows))
+      (w : Sifted counts visited settled′ out none (length visited) next′ out₁ along) where
     by-next : ByNext (count-of settled′) t (getD visited 0 0) (w .arm)
     by-next = passing-path (λ i l. inside (p .order) i l .1)
         (λ i l n. child-later (p .order) i (getD settled′ (getD visited i 0) 0) l (g .settled i (omega arith) l .child) n) (w .passing)
@@ -84,13 +85,13 @@ module _ {C : CandidateSet} {table : Table} {visited : List ℕ} {t : ℕ} {best
     gone-listed : (l : List ℕ) × Listing (λ v. List·Memᴰ v (w .gone)) l
     gone-listed = listing-exists (length counts) (λ v. decided (decides-member v (w .gone))) (λ v m. gone-below keep-siftable (w .passing) (omega arith) m)
 
-    dropped-sum : dropped ≡ sum (count-of counts) (gone-listed .0)
+    dropped-sum : along .dropped ≡ sum (count-of counts) (gone-listed .0)
     dropped-sum =
         let l = gone-listed .1 in
         w .dropped-sum ∙ sum-reordered (count-of counts) (length counts) (gone-distinct keep-siftable (w .passing) (omega arith)) (rising-distinct (l .rising))
         (λ v m. gone-below keep-siftable (w .passing) (omega arith) m) (λ v. (l .holds v .1, l .holds v .0))
 
-    dropped-fits : dropped ≤ read-limit
+    dropped-fits : along .dropped ≤ read-limit
     dropped-fits = rw (w .dropped-sum) (gone-sum keep-siftable (w .passing) (omega arith))
 
     on-path : (u v : ℕ) → Follows (getD visited 0 0 ∷ w .arm ++ (t ∷ [])) u v → getD next′ u 0 ≡ v
@@ -108,7 +109,7 @@ module _ {C : CandidateSet} {table : Table} {visited : List ℕ} {t : ℕ} {best
     out-other n = rw (w .no-counts) (puts-other out (w .gone) 0 n)
 
     -- the inner vertices of the kept path stand onward from the entrance
-    arm-stands : onward next′ (getD visited 0 0) inner ≡ w .arm
+    arm-stands : onward next′ (getD visited 0 0) (along .inner) ≡ w .arm
     arm-stands = rw (w .how-many) (arm-onward next′ t (getD visited 0 0) (w .arm) on-path)
 
     arm-below : Below (length counts) (getD visited 0 0 ∷ w .arm)
@@ -117,7 +118,7 @@ module _ {C : CandidateSet} {table : Table} {visited : List ℕ} {t : ℕ} {best
         let (i, a, b, q) = interior-place (kept-path .arm .inner (getD (w .arm) j 0) (getD-in (w .arm) j (omega arith))) in
         omega (arith, q, visited-below (p .order) i b, p .counted .count-each)
 
-    pub keep-shareable : Shareable counts next′ out₁ (getD visited 0 0) inner dropped
+    pub keep-shareable : Shareable counts next′ out₁ (getD visited 0 0) (along .inner) (along .dropped)
     keep-shareable = record {
       below = rw arm-stands arm-below;
       apart = rw (arm-stands, w .how-many) (distinct-apart (inner-distinct (w .arm) (p .order .superbubble) (kept-path .arm)));
@@ -127,7 +128,8 @@ module _ {C : CandidateSet} {table : Table} {visited : List ℕ} {t : ℕ} {best
       out-room = omega (arith, p .counted .count-each, p .out-room, ap length (w .no-counts), length-puts out (w .gone) 0);
     }
 
-    pub keep-done : {out′ : List ℕ} → Shared counts next′ out₁ (getD visited 0 0) inner dropped inner out′ → KeptDone C kept-shares table (getD visited 0 0) t best next out best′ next′ out′
+    pub keep-done : {out′ : List ℕ} → Shared counts next′ out₁ (getD visited 0 0) (along .inner) (along .dropped) (along .inner) out′
+        → KeptDone C kept-shares table (getD visited 0 0) t best next out best′ next′ out′
     keep-done {out′} shared = record {
       item = record { entrance = getD visited 0 0; exit = t; arm = w .arm; dropped = gone-listed .0 };
       entrance = refl;
@@ -148,7 +150,7 @@ module _ {C : CandidateSet} {table : Table} {visited : List ℕ} {t : ℕ} {best
       same-out = shared .same-out ∙ ap length (w .no-counts) ∙ length-puts out (w .gone) 0;
     }
       where
-        added : (j : ℕ) → j < length (w .arm) → getD out′ (getD (w .arm) j 0) 0 ≡ getD counts (getD (w .arm) j 0) 0 + to-each dropped (length (w .arm)) j
+        added : (j : ℕ) → j < length (w .arm) → getD out′ (getD (w .arm) j 0) 0 ≡ getD counts (getD (w .arm) j 0) 0 + to-each (along .dropped) (length (w .arm)) j
         added j h = rw (arm-stands, w .how-many) at (shared .added j (omega (arith, w .how-many)))
 
         off-arm : (v : ℕ) → (List·Memᴰ v (w .arm) → ⊥) → getD out′ v 0 ≡ getD out₁ v 0

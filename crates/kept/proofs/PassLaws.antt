@@ -13,6 +13,7 @@ use Rattle.table.proofs.SumLaws.{count-most}
 use Rattle.bubble.specs.Distinct.{Distinct, Distinct.empty, Distinct.fresh}
 use Rattle.rule.specs.Lists.{sum}
 use Rattle.rule.specs.Tables.{count-of}
+use Rattle.kept.specs.declared.paths.Along.{Along}
 use Rattle.kept.specs.Steps.{Partable, Step, Step.keeps, Step.drops, Siftable, puts, Passing, Passing.begun, Passing.keeps, Passing.drops, Sifted}
 use Rattle.kept.proofs.CountLaws.{distinct-sum}
 
@@ -69,10 +70,10 @@ module _ {counts visited next out : List ℕ} (p : Siftable counts visited next 
   gone-sum r l = omega (arith, distinct-sum counts (gone-distinct r l) (λ v m. gone-below r l m), p .sum-fits)
 
   -- the entrance is passed
-  pub sift-one : (none : ℕ) → Sifted counts visited next out none 1 next out (getD next (getD visited 0 0) 0) 0 0
+  pub sift-one : (none : ℕ) → Sifted counts visited next out none 1 next out (record { kept = getD next (getD visited 0 0) 0; inner = 0; dropped = 0 })
   sift-one none = record { arm = []; gone = []; passing = begun; no-rows = refl; no-counts = refl; how-many = refl; dropped-sum = refl }
 
-  module _ {none k : ℕ} {next′ out′ : List ℕ} {kept inner dropped : ℕ} (w : Sifted counts visited next out none k next′ out′ kept inner dropped) where
+  module _ {none k : ℕ} {next′ out′ : List ℕ} {along : Along} (w : Sifted counts visited next out none k next′ out′ along) where
     pub sift-next-room : length next′ ≡ length next
     sift-next-room = ap length (w .no-rows) ∙ length-puts next (w .gone) none
 
@@ -80,7 +81,7 @@ module _ {counts visited next out : List ℕ} (p : Siftable counts visited next 
     sift-out-room = ap length (w .no-counts) ∙ length-puts out (w .gone) 0
 
     module _ (l : k < length visited) where
-      pub sift-partable : k < 18446744073709551615 → Partable counts next′ out′ (getD visited k 0) inner dropped
+      pub sift-partable : k < 18446744073709551615 → Partable counts next′ out′ (getD visited k 0) along
       sift-partable k-fits = record {
         counted = p .below k l;
         next-room = omega (arith, p .below k l, p .next-room, sift-next-room);
@@ -89,18 +90,18 @@ module _ {counts visited next out : List ℕ} (p : Siftable counts visited next 
         dropped-fits = omega (arith, w .dropped-sum, gone-sum (w .passing) (omega arith), count-most counts (getD visited k 0) (p .below k l), p .sum-fits);
       }
 
-      pub sift-more : {next″ out″ : List ℕ} {kept″ inner″ dropped″ : ℕ} → Step counts next′ out′ none (getD visited k 0) kept inner dropped next″ out″ kept″ inner″ dropped″
-          → Sifted counts visited next out none (k + 1) next″ out″ kept″ inner″ dropped″
+      pub sift-more : {next″ out″ : List ℕ} {along″ : Along} → Step counts next′ out′ none (getD visited k 0) along next″ out″ along″
+          → Sifted counts visited next out none (k + 1) next″ out″ along″
       sift-more (keeps q) =
-          let same : getD next′ (getD visited k 0) 0 ≡ getD next kept 0 =
+          let same : getD next′ (getD visited k 0) 0 ≡ getD next (along .kept) 0 =
           ap (λ xs. getD xs (getD visited k 0) 0) (w .no-rows) ∙ puts-other next (w .gone) none (next-new (w .passing) l) ∙ ap (λ v. getD next v 0) q in
           rw (add-one k, same) (record {
-            arm = w .arm ++ (kept ∷ []);
+            arm = w .arm ++ (along .kept ∷ []);
             gone = w .gone;
             passing = keeps (w .passing) q;
             no-rows = w .no-rows;
             no-counts = w .no-counts;
-            how-many = omega (arith, w .how-many, length-append (w .arm) (kept ∷ []));
+            how-many = omega (arith, w .how-many, length-append (w .arm) (along .kept ∷ []));
             dropped-sum = w .dropped-sum;
           })
       sift-more (drops n) =

@@ -10,6 +10,7 @@ use Rattle.search.specs.Search.{Visited}
 use Rattle.rule.specs.Lists.{sum}
 use Rattle.rule.specs.Tables.{count-of}
 use Rattle.rule.specs.Next.{worth, Settled}
+use Rattle.kept.specs.declared.paths.Along.{Along}
 
 -- what u is worth can be said in 64 bits
 pub record Weighable (counts best : List ℕ) (t u : ℕ) : Type 0 where
@@ -46,17 +47,18 @@ pub record SettledFrom (table : Table) (visited : List ℕ) (t : ℕ) (next : Li
   pub elsewhere : (v : ℕ) → (In v visited → ⊥) → getD next′ v 0 ≡ getD next v 0
 
 -- v can be kept or dropped
-pub record Partable (counts next out : List ℕ) (v inner dropped : ℕ) : Type 0 where
+pub record Partable (counts next out : List ℕ) (v : ℕ) (along : Along) : Type 0 where
   pub counted : v < length counts
   pub next-room : v < length next
   pub out-room : v < length out
-  pub inner-fits : inner < 18446744073709551615
-  pub dropped-fits : dropped + getD counts v 0 ≤ 18446744073709551615
+  pub inner-fits : along .inner < 18446744073709551615
+  pub dropped-fits : along .dropped + getD counts v 0 ≤ 18446744073709551615
 
 -- v is the next vertex of the kept path, an inner one, or it is dropped
-pub data Step (counts next out : List ℕ) (none v kept inner dropped : ℕ) : List ℕ → List ℕ → ℕ → ℕ → ℕ → Type 0 where
-  keeps : v ≡ kept → Step counts next out none v kept inner dropped next out (getD next v 0) (inner + 1) dropped
-  drops : v ≢ kept → Step counts next out none v kept inner dropped (set next v none) (set out v 0) kept inner (dropped + getD counts v 0)
+pub data Step (counts next out : List ℕ) (none v : ℕ) (along : Along) : List ℕ → List ℕ → Along → Type 0 where
+  keeps : v ≡ along .kept → Step counts next out none v along next out (record { kept = getD next v 0; inner = along .inner + 1; dropped = along .dropped })
+  drops : v ≢ along .kept
+      → Step counts next out none v along (set next v none) (set out v 0) (record { kept = along .kept; inner = along .inner; dropped = along .dropped + getD counts v 0 })
 
 -- the visited vertices can be passed: they are different, and their counts' sum fits
 pub record Siftable (counts visited next out : List ℕ) : Type 0 where
@@ -79,11 +81,11 @@ pub data Passing (visited next : List ℕ) : ℕ → List ℕ → List ℕ → �
   drops : {k : ℕ} {arm gone : List ℕ} {kept : ℕ} → Passing visited next k arm gone kept → getD visited k 0 ≢ kept → Passing visited next (suc k) arm (getD visited k 0 ∷ gone) kept
 
 -- what passing them has changed
-pub record Sifted (counts visited next out : List ℕ) (none k : ℕ) (next′ out′ : List ℕ) (kept inner dropped : ℕ) : Type 0 where
+pub record Sifted (counts visited next out : List ℕ) (none k : ℕ) (next′ out′ : List ℕ) (along : Along) : Type 0 where
   pub arm : List ℕ
   pub gone : List ℕ
-  pub passing : Passing visited next k arm gone kept
+  pub passing : Passing visited next k arm gone (along .kept)
   pub no-rows : next′ ≡ puts next gone none
   pub no-counts : out′ ≡ puts out gone 0
-  pub how-many : inner ≡ length arm
-  pub dropped-sum : dropped ≡ sum (count-of counts) gone
+  pub how-many : along .inner ≡ length arm
+  pub dropped-sum : along .dropped ≡ sum (count-of counts) gone

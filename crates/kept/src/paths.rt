@@ -64,7 +64,7 @@ fn keep_or_drop(
     v: u32,
     along: Along,
 ) -> Along
-    requires { ⌜ Partable (now counts) (now next) (now out) v (along .inner) (along .dropped) ⌝ }
+    requires { ⌜ Partable (now counts) (now next) (now out) v along ⌝ }
     ensures { λ r.
         ⌜
         Step
@@ -73,14 +73,10 @@ fn keep_or_drop(
         (now (out .entry))
         rowless
         v
-        (along .kept)
-        (along .inner)
-        (along .dropped)
+        along
         (now (next .exit))
         (now (out .exit))
-        (r .kept)
-        (r .inner)
-        (r .dropped)
+        r
         ⌝ }
 {
     let x = v as usize;
@@ -115,9 +111,7 @@ fn sift(counts: &[u64], visited: &[u32], next: &mut [u32], out: &mut [u64], rowl
         (length (now (visited .entry)))
         (now (next .exit))
         (now (out .exit))
-        (r .kept)
-        (r .inner)
-        (r .dropped)
+        r
         ⌝ }
 {
     let s = visited[0] as usize;

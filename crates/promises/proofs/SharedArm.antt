@@ -296,7 +296,7 @@ by-rule b = record {
 pub shared-arm-foldable : Foldable shared-arm
 shared-arm-foldable = record { sound = record { well-formed = listed .0; count-each = refl; sum-fits = omega arith }; acyclic = folds-acyclic acyclic }
 
--- and every call with a budget of 1 or more leaves 0>1 1>2 2>4 with the counts 5 6 4 0 5, and answers folded 1, left 0, edges 3.
+-- and every call with room and a budget of 1 or more leaves 0>1 1>2 2>4 with the counts 5 6 4 0 5, and answers folded 1, left 0, edges 3.
 pub shared-arm-fold : (budget : ℕ) {table′ : Table} → 0 < budget → (call : FoldCall the-fold shared-arm budget table′)
     → (table′ ≡ shared-arm-folded) × (call .answer .folded ≡ 1) × (call .answer .left ≡ 0) × (call .answer .edges ≡ 3)
 shared-arm-fold zero h call = absurd (let none : ⊥ = omega arith in none)

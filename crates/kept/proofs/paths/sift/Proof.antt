@@ -11,7 +11,7 @@ use Rattle.kept.proofs.paths.sift.Tie as tie
 
 abbrev Inv-loop : tie.InvT-loop
 Inv-loop counts visited next₀ out₀ rowless s along₀ k₀ next out along k =
-    (k ≤ length visited) × Sifted counts visited next₀ out₀ rowless k next out (along .kept) (along .inner) (along .dropped)
+    (k ≤ length visited) × Sifted counts visited next₀ out₀ rowless k next out along
 
 abbrev μ-loop : tie.MeasureT-loop
 μ-loop counts visited next₀ out₀ rowless s along₀ k₀ next out along k = length visited - k
