@@ -3,6 +3,7 @@ ghost use Prim.Native.Nat.{_≤_};
 ghost use mathlib.Core.Path.{_≡_};
 ghost use lib.ListN.{length};
 ghost use Rattle.table.specs.Verdict.{Says};
+ghost use Rattle.layout.specs.Lengths.{Known};
 ghost use Rattle.layout.specs.Image.{versionOf};
 ghost use Rattle.image.specs.Contracts.{marked, HeaderJudged};
 use layout::Header;
@@ -11,19 +12,21 @@ use layout::word;
 use table::EDGE_LIMIT;
 use table::VERTEX_LIMIT;
 
-// What look and load answer: the number, n and m.
+// What look and load answer: the number, the version, n and m.
 pub struct Sizes {
     pub number: u32,
+    pub version: u32,
     pub vertices: usize,
     pub edges: usize,
 }
 
 // A refusal: every other field is 0.
 pub fn refused(number: u32) -> Sizes
-    ensures { λ r. ⌜ (r .number ≡ number) × (r .vertices ≡ 0) × (r .edges ≡ 0) ⌝ }
+    ensures { λ r. ⌜ (r .number ≡ number) × (r .version ≡ 0) × (r .vertices ≡ 0) × (r .edges ≡ 0) ⌝ }
 {
     Sizes {
         number,
+        version: 0,
         vertices: 0,
         edges: 0,
     }
@@ -56,14 +59,25 @@ fn version(image: &[u8]) -> u32
     wide(image[3]) + 256 * wide(image[4])
 }
 
-// 10, 11, 1, 2, 12, in this order, or 0 with n and m.
+// Whether there is such a version.
+fn is_known(version: u32) -> bool
+    ensures { λ r. ⌜ Says r (Known version) ⌝ }
+{
+    if version == Header::VERSION_1 {
+        return true;
+    }
+    version == Header::VERSION_2
+}
+
+// 10, 11, 1, 2, 12, in this order, or 0 with version, n and m.
 pub fn judge_header(image: &[u8]) -> Sizes
     ensures { λ r. ⌜ HeaderJudged (now (image .entry)) r ⌝ }
 {
     if !is_marked(image) {
         return refused(10);
     }
-    if version(image) != Header::VERSION {
+    let version = version(image);
+    if !is_known(version) {
         return refused(11);
     }
     let n = word(image, 5);
@@ -74,11 +88,12 @@ pub fn judge_header(image: &[u8]) -> Sizes
     if m as usize > EDGE_LIMIT {
         return refused(2);
     }
-    if image.len() != Header::length(n, m) {
+    if image.len() != Header::length(version, n, m) {
         return refused(12);
     }
     Sizes {
         number: 0,
+        version,
         vertices: n as usize,
         edges: m as usize,
     }

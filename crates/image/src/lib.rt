@@ -1,4 +1,4 @@
-// A house image judged, and its table loaded into lent slices.
+// A house image judged, its contents loaded into lent slices, and written.
 mod header;
 mod laying;
 mod loading;
@@ -7,3 +7,6 @@ mod looking;
 pub use header::Sizes;
 pub use loading::load;
 pub use looking::look;
+pub use writing::Extent;
+pub use writing::write;
+pub use writing::write_lengths;

@@ -5,19 +5,26 @@ use crate::header::refused;
 use crate::laying::lay_in_room;
 use crate::looking::look;
 
-// Loads the table of an image into lent slices: 10, 11, 1, 2, 12, 3, 4, 5, 7, 8, in this order, or 0 with n and m.
-pub fn load(image: &[u8], starts: &mut [u32], targets: &mut [u32], counts: &mut [u64]) -> Sizes
+// Loads the contents of an image into lent slices: 10, 11, 1, 2, 12, 3, 4, 5, 7, 20, 8, in this order, or 0 with version, n and m. In version 1 nothing is asked of
+// the lengths slice, and nothing is stored there.
+pub fn load(
+    image: &[u8],
+    starts: &mut [u32],
+    targets: &mut [u32],
+    counts: &mut [u64],
+    lengths: &mut [u16],
+) -> Sizes
     ensures { λ r.
         ⌜
         Loaded
         (now (image .entry))
         (record {
-          rows = record { starts = now (starts .entry); targets = now (targets .entry) };
-          counts = now (counts .entry);
+          table = record { rows = record { starts = now (starts .entry); targets = now (targets .entry) }; counts = now (counts .entry) };
+          lengths = now (lengths .entry);
         })
         (record {
-          rows = record { starts = now (starts .exit); targets = now (targets .exit) };
-          counts = now (counts .exit);
+          table = record { rows = record { starts = now (starts .exit); targets = now (targets .exit) }; counts = now (counts .exit) };
+          lengths = now (lengths .exit);
         })
         r
         ⌝ }
@@ -26,7 +33,16 @@ pub fn load(image: &[u8], starts: &mut [u32], targets: &mut [u32], counts: &mut 
     if sizes.number != 0 {
         return refused(sizes.number);
     }
-    let number = lay_in_room(image, sizes.vertices, sizes.edges, starts, targets, counts);
+    let number = lay_in_room(
+        image,
+        sizes.version,
+        sizes.vertices,
+        sizes.edges,
+        starts,
+        targets,
+        counts,
+        lengths,
+    );
     if number != 0 {
         return refused(number);
     }

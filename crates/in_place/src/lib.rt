@@ -1,4 +1,5 @@
-// The check of a table where it stands in an image, without a copy of it: 3, 4, 5 and 7. Each part of the image is handed on as its bytes alone.
+// The check of a table and its lengths where they stand in an image, without a copy of them: 3, 4, 5, 7 and 20. Each part of the image is handed on as its bytes
+// alone.
 ghost use Prim.Native.Nat.{_+_, _*_, _≤_};
 ghost use mathlib.Core.Path.{_≡_};
 ghost use lib.ListN.{length};
@@ -6,8 +7,10 @@ ghost use Rattle.table.specs.Limits.{vertex-limit, edge-limit, read-limit};
 ghost use Rattle.table.specs.Verdict.{Says, Verdict};
 ghost use Rattle.table.specs.Table.{Below, Rises, StartsFit, RowsRise, countSum};
 ghost use Rattle.layout.specs.Bytes.{numbersOf};
-ghost use Rattle.in_place.specs.InPlace.{Sized, tableIn, placedDemands};
+ghost use Rattle.layout.specs.Lengths.{Positive};
+ghost use Rattle.in_place.specs.InPlace.{Sized, contentsIn, placedDemands};
 use layout::Header;
+use layout::half;
 use layout::long;
 use layout::word;
 use table::READ_LIMIT;
@@ -108,16 +111,33 @@ fn sum_fits(counts: &[u8], n: usize) -> bool
     true
 }
 
-// 3, 4, 5, 7, the first that is given, or 0, of the table that stands in an image of n and m.
-pub fn check(image: &[u8], n: usize, m: usize) -> u32
-    requires { ⌜ Sized (now image) n m ⌝ }
-    ensures { λ r. ⌜ Verdict (placedDemands (tableIn (now (image .entry)) n m)) r ⌝ }
+// Whether none of the lengths that these bytes spell, so many, is 0.
+fn none_zero(lengths: &[u8], count: usize) -> bool
+    requires { ⌜ (count ≤ vertex-limit) × (length (now lengths) ≡ 2 * count) ⌝ }
+    ensures { λ r. ⌜ Says r (Positive (numbersOf 2 count (now (lengths .entry)))) ⌝ }
+{
+    let mut k = 0;
+    while k < count {
+        if half(lengths, 2 * k) == 0 {
+            return false;
+        }
+        k += 1;
+    }
+    true
+}
+
+// 3, 4, 5, 7, 20, the first that is given, or 0, of what stands in an image of a version, n and m.
+pub fn check(image: &[u8], version: u32, n: usize, m: usize) -> u32
+    requires { ⌜ Sized (now image) version n m ⌝ }
+    ensures { λ r. ⌜ Verdict (placedDemands (contentsIn (now (image .entry)) version n m)) r ⌝ }
 {
     let targets_at = Header::SIZE + 4 * (n + 1);
     let counts_at = targets_at + 4 * m;
+    let lengths_at = counts_at + 8 * n;
     let starts = &image[Header::SIZE..targets_at];
     let targets = &image[targets_at..counts_at];
-    let counts = &image[counts_at..];
+    let counts = &image[counts_at..lengths_at];
+    let lengths = &image[lengths_at..];
     if !starts_fit(starts, n, m) {
         return 3;
     }
@@ -129,6 +149,9 @@ pub fn check(image: &[u8], n: usize, m: usize) -> u32
     }
     if !sum_fits(counts, n) {
         return 7;
+    }
+    if !none_zero(lengths, Header::lengths(version, n)) {
+        return 20;
     }
     0
 }

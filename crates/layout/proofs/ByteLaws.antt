@@ -11,19 +11,22 @@ use lib.Dec.{lit<}
 use Rattle.table.proofs.FrontLaws.{one-at, front-more}
 use Rattle.layout.specs.Bytes.{valueOf, bytesOf, numbersOf, spelled, over}
 
--- the four bytes from a place on
+-- the two bytes from a place on, and the four
+two-at : (bs : List ℕ) (at : ℕ) → at + 2 ≤ length bs → take 2 (drop at bs) ≡ getD bs at 0 ∷ getD bs (at + 1) 0 ∷ []
+two-at bs at h =
+    ap (take 2) (one-at bs at (omega arith)) ∙ ap (λ (l : List ℕ). getD bs at 0 ∷ take 1 l) (one-at bs (at + 1) (omega arith))
+
 four-at : (bs : List ℕ) (at : ℕ) → at + 4 ≤ length bs
     → take 4 (drop at bs) ≡ getD bs at 0 ∷ getD bs (at + 1) 0 ∷ getD bs (at + 2) 0 ∷ getD bs (at + 3) 0 ∷ []
 four-at bs at h =
-    let two : at + 1 + 1 ≡ at + 2 = omega arith in
     let three : at + 2 + 1 ≡ at + 3 = omega arith in
-    let b₀ = getD bs at 0 in
-    let b₁ = getD bs (at + 1) 0 in
-    let b₂ = getD bs (at + 2) 0 in
-    ap (take 4) (one-at bs at (omega arith))
-    ∙ ap (λ (l : List ℕ). b₀ ∷ take 3 l) (rw two at (one-at bs (at + 1) (omega arith)))
-    ∙ ap (λ (l : List ℕ). b₀ ∷ b₁ ∷ take 2 l) (rw three at (one-at bs (at + 2) (omega arith)))
-    ∙ ap (λ (l : List ℕ). b₀ ∷ b₁ ∷ b₂ ∷ take 1 l) (one-at bs (at + 3) (omega arith))
+    take-add 2 2 (drop at bs)
+    ∙ ap (λ (l : List ℕ). take 2 (drop at bs) ++ take 2 l) (drop-drop 2 at bs)
+    ∙ rw (two-at bs at (omega arith), two-at bs (at + 2) (omega arith), three) refl
+
+-- the 16-bit number at a place, by its bytes
+pub half-at : (bs : List ℕ) (at : ℕ) → at + 2 ≤ length bs → valueOf (take 2 (drop at bs)) ≡ getD bs at 0 + 256 * getD bs (at + 1) 0
+half-at bs at h = ap valueOf (two-at bs at h) ∙ omega arith
 
 -- the 32-bit number at a place, by its bytes
 pub word-at : (bs : List ℕ) (at : ℕ) → at + 4 ≤ length bs
@@ -165,7 +168,10 @@ module _ {width : ℕ} {numbers lent : List ℕ} {at : ℕ} {list : List ℕ} {k
   pub write-all : length numbers ≤ k → list ≡ over lent at (spelled width numbers)
   write-all h = let all : take k numbers ≡ numbers = take-all k numbers h in rw all at (so-far .written)
 
--- four stores are one number written over a list
+-- two stores are one number written over a list, and so are four
+pub put-two : (list : List ℕ) (at x : ℕ) → at + 2 ≤ length list → set (set list at (x % 256)) (at + 1) (x / 256 % 256) ≡ over list at (bytesOf 2 x)
+put-two list at x h = let one : at + 1 ≡ suc at = omega arith in rw one (sets-eq (bytesOf 2 x) list at h)
+
 pub put-four : (list : List ℕ) (at x : ℕ) → at + 4 ≤ length list
     → set (set (set (set list at (x % 256)) (at + 1) (x / 256 % 256)) (at + 2) (x / 65536 % 256)) (at + 3) (x / 16777216 % 256) ≡ over list at (bytesOf 4 x)
 put-four list at x h =

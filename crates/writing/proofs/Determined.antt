@@ -3,18 +3,17 @@ use Prim.Native.Nat.{ℕ}
 use mathlib.Core.Path.{_≡_, sym, _∙_}
 use mathlib.Core.List.{List, [], _∷_, _++_}
 use native.Mathlib.Decide.{ℕ-discrete}
-use Rattle.table.specs.Table.{Table}
-use Rattle.table.specs.Numbers.{countedDemands}
 use Rattle.table.proofs.VerdictLaws.{verdict-unique}
+use Rattle.layout.specs.Image.{Contents}
 use Rattle.writing.specs.declared.Extent.{Extent}
-use Rattle.writing.specs.Writing.{imageRoom, Written}
+use Rattle.writing.specs.Writing.{imageRoom, contentsDemands, Written}
 
--- two writings of one table into slices that held the same
-pub write-determined : {table : Table} {image image₁ image₂ : List ℕ} {answer₁ answer₂ : Extent} → Written table image image₁ answer₁
-    → Written table image image₂ answer₂ → (answer₁ ≡ answer₂) × (image₁ ≡ image₂)
-write-determined {table} {image} {answer₁ = answer₁} {answer₂} a b =
+-- two writings of one version and contents into slices that held the same
+pub write-determined : {version : ℕ} {contents : Contents} {image image₁ image₂ : List ℕ} {answer₁ answer₂ : Extent}
+    → Written version contents image image₁ answer₁ → Written version contents image image₂ answer₂ → (answer₁ ≡ answer₂) × (image₁ ≡ image₂)
+write-determined {version} {contents} {image} {answer₁ = answer₁} {answer₂} a b =
     let same : answer₁ .number ≡ answer₂ .number
-    = verdict-unique (countedDemands table ++ imageRoom (table .rows) image ∷ []) (answer₁ .number) (answer₂ .number) (a .verdict) (b .verdict) in
+    = verdict-unique (contentsDemands version contents ++ imageRoom version (contents .table .rows) image ∷ []) (answer₁ .number) (answer₂ .number) (a .verdict) (b .verdict) in
     elim (ℕ-discrete (answer₁ .number) 0) [
       | yes e ↦
           let x = a .taken e in

@@ -1,6 +1,6 @@
 -- `image::header::version` meets its contract. Assumes nothing.
 use native.Mathlib.Omega.{arith}
-use Rattle.image.proofs.HeaderLaws.{version-bytes}
+use Rattle.layout.proofs.ByteLaws.{half-at}
 use borrow.Author.Needs.{needs}
 use Rattle.image.proofs.header.version.Statement.{statement}
 use Rattle.image.proofs.header.version.Tie as tie
@@ -24,7 +24,9 @@ add-result : tie.Need-add-result
 add-result c = search needs
 
 returns : tie.Need-returns
-returns c = let start = c .before .before .before .before .before in omega (arith, version-bytes (start .args .image .now) (start .pre), c .before .before .wide .ensures, c .wide2 .ensures)
+returns c =
+    let start = c .before .before .before .before .before in
+    omega (arith, half-at (start .args .image .now) 3 (omega (arith, start .pre)), c .before .before .wide .ensures, c .wide2 .ensures)
 
 pub version-spec : {M : Type 1} → statement M
 version-spec =

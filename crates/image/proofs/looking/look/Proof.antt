@@ -1,6 +1,6 @@
--- `image::looking::look` meets its contract: what the header says, and then what the table that stands in the image is given. Assumes nothing.
+-- `image::looking::look` meets its contract: what the header says, and then what the contents that stand in the image are given. Assumes nothing.
 use borrow.Author.Needs.{needs}
-use Rattle.image.proofs.LookLaws.{header-says, looked-by-header, looked-by-table, looked-sound}
+use Rattle.image.proofs.LookLaws.{header-says, looked-by-header, looked-by-contents, looked-sound}
 use Rattle.image.proofs.looking.look.Statement.{statement}
 use Rattle.image.proofs.looking.look.Tie as tie
 
@@ -27,7 +27,7 @@ returns-2 : tie.Need-returns-2
 returns-2 c =
     let judged = c .before .before in
     let start = accepted judged in
-    looked-by-table (header start .judge-header .ensures) (start .if1 .left) (judged .check .ensures) (c .before .if2 .taken) (c .refused .ensures)
+    looked-by-contents (header start .judge-header .ensures) (start .if1 .left) (judged .check .ensures) (c .before .if2 .taken) (c .refused .ensures)
 
 returns-3 : tie.Need-returns-3
 returns-3 c =

@@ -48,16 +48,16 @@ put-word-requires c κs = simp length-set (omega arith)
 
 put-word-requires-2 : tie.Need-put-word-requires-2
 put-word-requires-2 c κs = let start = entry c in
-    omega (arith, nine-length (start .args .out .now) (start .args .self .vertices) (start .pre) (c .before .before .before .put-word .ensures))
+    omega (arith, nine-length (start .args .out .now) (start .args .self .version) (start .args .self .vertices) (start .pre) (c .before .before .before .put-word .ensures))
 
 same-length : tie.Need-same-length
 same-length c = let start = entry (c .before .before .before) in
-    header-length (start .args .out .now) (start .args .self .vertices) (start .pre) (after-put-word (c .before .before) .put-word .ensures)
+    header-length (start .args .out .now) (start .args .self .version) (start .args .self .vertices) (start .pre) (after-put-word (c .before .before) .put-word .ensures)
     (start .args .self .edges) (c .before .before .put-word2 .ensures)
 
 returns : tie.Need-returns
 returns c = let start = entry (c .before .before .before) in
-    header-whole (start .args .out .now) (start .args .self .vertices) (start .pre) (after-put-word (c .before .before) .put-word .ensures)
+    header-whole (start .args .out .now) (start .args .self .version) (start .args .self .vertices) (start .pre) (after-put-word (c .before .before) .put-word .ensures)
     (start .args .self .edges) (c .before .before .put-word2 .ensures)
 
 pub put-spec : {M : Type 1} → statement M
