@@ -5,7 +5,7 @@ ghost use Prim.Native.Nat.{_+_, _<_};
 ghost use mathlib.Core.Path.{_≡_};
 ghost use lib.ListN.{length};
 ghost use Rattle.table.specs.Table.{vertices, Below};
-ghost use Rattle.rule.specs.Way.{the-fold};
+ghost use Rattle.rule.specs.Fold.{Candidate};
 ghost use Rattle.candidates.specs.Candidates.{entrances, Findable, FindDone};
 ghost use Rattle.candidates.specs.Steps.{RuledOut, ExitSettable, ExitSet, Notable, Noted, Scan};
 use parents::clear;
@@ -67,7 +67,7 @@ fn pass_entrance(
 )
     requires { ⌜
         Scan
-        (the-fold .candidates)
+        Candidate
         (record { starts = now starts; targets = now targets })
         (now parents)
         (now pending)
@@ -79,7 +79,7 @@ fn pass_entrance(
     ensures { λ r.
         ⌜
         Scan
-        (the-fold .candidates)
+        Candidate
         (record { starts = now (starts .entry); targets = now (targets .entry) })
         (now (parents .entry))
         (now (pending .exit))
@@ -132,7 +132,7 @@ pub fn find(
     ensures { λ r.
         ⌜
         FindDone
-        (the-fold .candidates)
+        Candidate
         (record { starts = now (starts .entry); targets = now (targets .entry) })
         (now (parents .exit))
         (now (pending .exit))

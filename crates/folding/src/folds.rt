@@ -3,9 +3,11 @@ ghost use mathlib.Core.Path.{_≡_};
 ghost use Rattle.table.specs.Verdict.{Says};
 ghost use Rattle.table.specs.Table.{Edge, WellFormed};
 ghost use Rattle.bubble.specs.Cycle.{Cyclic};
+ghost use Rattle.rule.specs.declared.Choosing.the-variants.{Sum, Weakest};
 ghost use Rattle.rule.specs.Way.{the-fold};
 ghost use Rattle.folding.specs.Folding.{FoldDone, FoldedAt};
 ghost use Rattle.folding.specs.Steps.{FoldRoom};
+use rule::Choosing;
 use table::VERTEX_LIMIT;
 
 // What folding answers: the number, how many were folded, how many candidates remain in the new table, and the new edge count.
@@ -39,6 +41,7 @@ fn cyclic(starts: &[u32], targets: &[u32]) -> bool
 
 // Folds a table, with a slice that has room for the number of every vertex.
 fn fold_in(
+    by: Choosing,
     starts: &[u32],
     targets: &[u32],
     counts: &[u64],
@@ -50,7 +53,7 @@ fn fold_in(
 ) -> Folded
     requires { ⌜
         FoldRoom
-        the-fold
+        (the-fold by)
         (record { rows = record { starts = now starts; targets = now targets }; counts = now counts })
         (now next)
         (record { rows = record { starts = now starts2; targets = now targets2 }; counts = now counts2 })
@@ -59,7 +62,7 @@ fn fold_in(
         ⌜
         (r .number ≡ 0)
         × FoldedAt
-        the-fold
+        (the-fold by)
         (record { rows = record { starts = now (starts .entry); targets = now (targets .entry) }; counts = now (counts .entry) })
         budget
         (record { rows = record { starts = now (starts2 .entry); targets = now (targets2 .entry) }; counts = now (counts2 .entry) })
@@ -69,7 +72,7 @@ fn fold_in(
 {
     let n = starts.len() - 1;
     let rows = &mut next[..n];
-    let turned = turns::turn(starts, targets, counts, budget, rows, &mut counts2[..n]);
+    let turned = turns::turn(by, starts, targets, counts, budget, rows, &mut counts2[..n]);
     let edges = staying::write_table(starts, targets, rows, starts2, targets2);
     Folded {
         number: 0,
@@ -79,8 +82,10 @@ fn fold_in(
     }
 }
 
-// Folds a table by a budget into a second set of slices: 1 to 7, then 8, then 9, the smallest, or 0 with folded, left and edges.
-pub fn fold(
+// Folds a table by a budget into a second set of slices, each candidate to the path that is chosen: 1 to 7, then 8, then 9, the smallest, or 0 with folded, left and
+// edges.
+pub fn fold_by(
+    by: Choosing,
     starts: &[u32],
     targets: &[u32],
     counts: &[u64],
@@ -92,7 +97,7 @@ pub fn fold(
     ensures { λ r.
         ⌜
         FoldDone
-        the-fold
+        (the-fold by)
         (record { rows = record { starts = now (starts .entry); targets = now (targets .entry) }; counts = now (counts .entry) })
         budget
         (record { rows = record { starts = now (starts2 .entry); targets = now (targets2 .entry) }; counts = now (counts2 .entry) })
@@ -119,11 +124,78 @@ pub fn fold(
     }
     let mut next = [0u32; VERTEX_LIMIT];
     fold_in(
+        by,
         starts,
         targets,
         counts,
         budget as usize,
         &mut next,
+        starts2,
+        targets2,
+        counts2,
+    )
+}
+
+// The fold of version 1: the path with the largest sum of inner counts is kept.
+pub fn fold(
+    starts: &[u32],
+    targets: &[u32],
+    counts: &[u64],
+    budget: u32,
+    starts2: &mut [u32],
+    targets2: &mut [u32],
+    counts2: &mut [u64],
+) -> Folded
+    ensures { λ r.
+        ⌜
+        FoldDone
+        (the-fold Sum)
+        (record { rows = record { starts = now (starts .entry); targets = now (targets .entry) }; counts = now (counts .entry) })
+        budget
+        (record { rows = record { starts = now (starts2 .entry); targets = now (targets2 .entry) }; counts = now (counts2 .entry) })
+        (record { rows = record { starts = now (starts2 .exit); targets = now (targets2 .exit) }; counts = now (counts2 .exit) })
+        r
+        ⌝ }
+{
+    fold_by(
+        Choosing::Sum,
+        starts,
+        targets,
+        counts,
+        budget,
+        starts2,
+        targets2,
+        counts2,
+    )
+}
+
+// The fold of version 2: the path with the largest least inner count is kept, and never the bare edge.
+pub fn fold_weakest(
+    starts: &[u32],
+    targets: &[u32],
+    counts: &[u64],
+    budget: u32,
+    starts2: &mut [u32],
+    targets2: &mut [u32],
+    counts2: &mut [u64],
+) -> Folded
+    ensures { λ r.
+        ⌜
+        FoldDone
+        (the-fold Weakest)
+        (record { rows = record { starts = now (starts .entry); targets = now (targets .entry) }; counts = now (counts .entry) })
+        budget
+        (record { rows = record { starts = now (starts2 .entry); targets = now (targets2 .entry) }; counts = now (counts2 .entry) })
+        (record { rows = record { starts = now (starts2 .exit); targets = now (targets2 .exit) }; counts = now (counts2 .exit) })
+        r
+        ⌝ }
+{
+    fold_by(
+        Choosing::Weakest,
+        starts,
+        targets,
+        counts,
+        budget,
         starts2,
         targets2,
         counts2,

@@ -3,3 +3,5 @@ mod folds;
 
 pub use folds::Folded;
 pub use folds::fold;
+pub use folds::fold_by;
+pub use folds::fold_weakest;

@@ -8,10 +8,11 @@ use borrow.Author.Count.{below-more}
 use lib.ListN.{getD}
 use Rattle.rule.specs.Tables.{count-of}
 use Rattle.rule.specs.Next.{worth}
+use Rattle.rule.specs.declared.Choosing.{Choosing}
 use Rattle.kept.specs.Steps.{Chosen}
 
-module _ {row counts best : List ℕ} {t : ℕ} where
-  pub chosen-one : {gain : ℕ} → gain ≡ worth (count-of counts) t (count-of best) (getD row 0 0) → Chosen row counts best t 1 (getD row 0 0) gain
+module _ {by : Choosing} {row counts best : List ℕ} {t end : ℕ} where
+  pub chosen-one : {gain : ℕ} → gain ≡ worth by (count-of counts) t end (count-of best) (getD row 0 0) → Chosen by row counts best t end 1 (getD row 0 0) gain
   chosen-one q = record {
     place = 0;
     passed = omega arith;
@@ -21,8 +22,8 @@ module _ {row counts best : List ℕ} {t : ℕ} where
     first = λ j l. absurd (omega arith);
   }
 
-  module _ {k child gain more : ℕ} (c : Chosen row counts best t k child gain) (q : more ≡ worth (count-of counts) t (count-of best) (getD row k 0)) where
-    pub chosen-larger : gain < more → Chosen row counts best t (k + 1) (getD row k 0) more
+  module _ {k child gain more : ℕ} (c : Chosen by row counts best t end k child gain) (q : more ≡ worth by (count-of counts) t end (count-of best) (getD row k 0)) where
+    pub chosen-larger : gain < more → Chosen by row counts best t end (k + 1) (getD row k 0) more
     chosen-larger h = record {
       place = k;
       passed = omega arith;
@@ -32,7 +33,7 @@ module _ {row counts best : List ℕ} {t : ℕ} where
       first = λ j l. omega (arith, c .largest j l);
     }
 
-    pub chosen-still : more ≤ gain → Chosen row counts best t (k + 1) child gain
+    pub chosen-still : more ≤ gain → Chosen by row counts best t end (k + 1) child gain
     chosen-still h = record {
       place = c .place;
       passed = omega (arith, c .passed);

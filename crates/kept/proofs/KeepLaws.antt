@@ -1,15 +1,15 @@
--- Laws of keeping a path: where the visited vertices are settled and passed, the path by next is the kept one, what is gone are the dropped vertices, and the counts
+-- Laws of keeping a path: where the visited vertices are led and passed, the path by next is the kept one, what is gone are the dropped vertices, and the counts
 -- come to what the fold rule asks. Assumes nothing.
 use Prim.Native.Nat.{ℕ, zero, suc, _+_, _≤_, _<_}
 use mathlib.Core.Path.{_≡_, refl, sym, _∙_, ap}
-use mathlib.Core.Logic.{_≢_, _↔_, ⊎-elim}
+use mathlib.Core.Logic.{_↔_, ⊎-elim}
 use mathlib.Core.List.{List, [], _∷_, _++_, List·Memᴰ, List·Memᴰ·cases-cons, List·Memᴰ·append-cases, List·Memᴰ·eq-of-singleton}
 use native.Mathlib.Omega.{arith}
 use native.Mathlib.Decide.{ℕ-discrete}
 use lib.ListN.{length, getD}
 use Rattle.table.specs.Limits.{read-limit}
 use Rattle.table.specs.Table.{Below, Rows, Table, size, edges}
-use Rattle.bubble.specs.Superbubble.{F, Interior}
+use Rattle.bubble.specs.Superbubble.{Interior}
 use Rattle.bubble.proofs.Pigeonhole.{getD-in, distinct-apart}
 use Rattle.bubble.proofs.Reflect.{decided, decides-member}
 use Rattle.rule.specs.Lists.{CandidateSet, sum, Listing, Follows}
@@ -20,26 +20,26 @@ use Rattle.rule.proofs.Listings.{rising-distinct, listing-same, listing-exists}
 use Rattle.rule.proofs.Sums.{sum-reordered}
 use Rattle.rule.proofs.Following.{follows-tail}
 use Rattle.rule.proofs.Arms.{inner-distinct}
-use Rattle.rule.specs.Next.{no-row, Settled}
-use Rattle.rule.proofs.ByNext.{ByNext, by-next-kept}
+use Rattle.rule.specs.Next.{no-row, ByNext}
+use Rattle.rule.specs.declared.Choosing.{Choosing}
 use Rattle.sharing.specs.Sharing.{onward, Shareable, Shared}
 use Rattle.kept.specs.declared.paths.Along.{Along}
-use Rattle.kept.specs.Steps.{Settleable, SettledFrom, Siftable, Sifted}
+use Rattle.kept.specs.Steps.{Settleable, Led, Siftable, Sifted}
 use Rattle.kept.specs.Keeping.{Keepable, KeptDone}
 use Rattle.kept.proofs.OrderLaws.{inside, visit-place, visited-below, child-later}
 use Rattle.kept.proofs.PassLaws.{length-puts, puts-listed, puts-other, gone-place, gone-distinct, gone-below, gone-sum}
 use Rattle.kept.proofs.PathLaws.{by-next-follows, arm-onward, passed-place, arm-gone, passing-path}
 
 pub keep-settleable : {C : CandidateSet} {table : Table} {visited : List ℕ} {t : ℕ} {best next out : List ℕ} → Keepable C table visited t best next out
-    → Settleable table visited t best next
-keep-settleable p = record { counted = p .counted; order = p .order; best-room = p .best-room; next-room = p .next-room }
+    → Settleable table visited t 0 best next
+keep-settleable p = record { counted = p .counted; order = p .order; bounded = omega arith; best-room = p .best-room; next-room = p .next-room }
 
-module _ {C : CandidateSet} {table : Table} {visited : List ℕ} {t : ℕ} {best next out best′ settled′ : List ℕ} (p : Keepable C table visited t best next out)
-    (best-long : length best′ ≡ length best) (next-long : length settled′ ≡ length next) (g : SettledFrom table visited t next 0 best′ settled′) where
+module _ {C : CandidateSet} {by : Choosing} {table : Table} {visited : List ℕ} {t : ℕ} {best next out led : List ℕ} (p : Keepable C table visited t best next out)
+    (next-long : length led ≡ length next) (g : Led by table visited t next led) where
   open Table table using (rows, counts)
   open Rows rows using (starts, targets)
 
-  pub keep-siftable : Siftable counts visited settled′ out
+  pub keep-siftable : Siftable counts visited led out
   keep-siftable = record {
     some = p .order .some;
     below = rw (p .counted .count-each) (visited-below (p .order));
@@ -48,9 +48,6 @@ module _ {C : CandidateSet} {table : Table} {visited : List ℕ} {t : ℕ} {best
     next-room = omega (arith, next-long, p .counted .count-each, p .next-room);
     out-room = omega (arith, p .counted .count-each, p .out-room);
   }
-
-  settled : (v : ℕ) → F (edges rows) (getD visited 0 0) t v → v ≢ t → Settled (edges rows) (count-of counts) t (count-of best′) (count-of settled′) v
-  settled v f n = let (i, l, q) = visit-place (p .order) v f n in rw q at (g .settled i (omega arith) l)
 
   -- an interior vertex is visited after the entrance
   interior-place : {v : ℕ} → Interior (edges rows) (getD visited 0 0) t v → (i : ℕ) × (0 < i) × (i < length visited) × (getD visited i 0 ≡ v)
@@ -64,13 +61,13 @@ module _ {C : CandidateSet} {table : Table} {visited : List ℕ} {t : ℕ} {best
       rw (← q) (record { inside = f; not-entrance = λ e. omega (arith, p .order .apart i 0 l (omega arith) e); not-exit = n })
 
   module _ {none : ℕ} {next′ out₁ : List ℕ} {along : Along} (rowless-is : none ≡ no-row (size rows))
-      (w : Sifted counts visited settled′ out none (length visited) next′ out₁ along) where
-    by-next : ByNext (count-of settled′) t (getD visited 0 0) (w .arm)
+      (w : Sifted counts visited led out none (length visited) next′ out₁ along) where
+    by-next : ByNext (count-of led) t (getD visited 0 0) (w .arm)
     by-next = passing-path (λ i l. inside (p .order) i l .1)
-        (λ i l n. child-later (p .order) i (getD settled′ (getD visited i 0) 0) l (g .settled i (omega arith) l .child) n) (w .passing)
+        (λ i l n. child-later (p .order) i (getD led (getD visited i 0) 0) l (g .child i l) n) (w .passing)
 
-    kept-path : Kept (edges rows) (count-of counts) (getD visited 0 0) t (w .arm)
-    kept-path = by-next-kept (p .order .superbubble .bubbloid) settled by-next
+    kept-path : Kept by (edges rows) (count-of counts) (getD visited 0 0) t (w .arm)
+    kept-path = g .kept (w .arm) by-next
 
     gone-interior : {v : ℕ} → List·Memᴰ v (w .gone) → Interior (edges rows) (getD visited 0 0) t v
     gone-interior m = let (i, a, b, q) = gone-place (w .passing) m in place-interior i a b q
@@ -99,7 +96,7 @@ module _ {C : CandidateSet} {table : Table} {visited : List ℕ} {t : ℕ} {best
         let stays : List·Memᴰ u (w .gone) → ⊥ = λ m.
         let at-end : List·Memᴰ u (t ∷ []) → ⊥ = λ i. gone-interior m .not-exit (List·Memᴰ·eq-of-singleton i) in
         ⊎-elim (gone-interior m .not-entrance) (λ i. ⊎-elim (λ a. gone-rest u .0 m .1 a) at-end (List·Memᴰ·append-cases (w .arm) i)) (List·Memᴰ·cases-cons (follows-tail f)) in
-        rw (w .no-rows) (puts-other settled′ (w .gone) none stays ∙ by-next-follows by-next f)
+        rw (w .no-rows) (puts-other led (w .gone) none stays ∙ by-next-follows by-next f)
 
     -- what passing has left of the counts
     out-gone : {v : ℕ} → List·Memᴰ v (w .gone) → getD out₁ v 0 ≡ 0
@@ -124,13 +121,13 @@ module _ {C : CandidateSet} {table : Table} {visited : List ℕ} {t : ℕ} {best
       apart = rw (arm-stands, w .how-many) (distinct-apart (inner-distinct (w .arm) (p .order .superbubble) (kept-path .arm)));
       sum-fits = p .counted .sum-fits;
       dropped-fits = dropped-fits;
-      next-room = omega (arith, next-long, p .counted .count-each, p .next-room, ap length (w .no-rows), length-puts settled′ (w .gone) none);
+      next-room = omega (arith, next-long, p .counted .count-each, p .next-room, ap length (w .no-rows), length-puts led (w .gone) none);
       out-room = omega (arith, p .counted .count-each, p .out-room, ap length (w .no-counts), length-puts out (w .gone) 0);
     }
 
-    pub keep-done : {out′ : List ℕ} → Shared counts next′ out₁ (getD visited 0 0) (along .inner) (along .dropped) (along .inner) out′
-        → KeptDone C kept-shares table (getD visited 0 0) t best next out best′ next′ out′
-    keep-done {out′} shared = record {
+    pub keep-done : {best′ out′ : List ℕ} → length best′ ≡ length best → Shared counts next′ out₁ (getD visited 0 0) (along .inner) (along .dropped) (along .inner) out′
+        → KeptDone C (kept-shares by) table (getD visited 0 0) t best next out best′ next′ out′
+    keep-done {out′ = out′} best-long shared = record {
       item = record { entrance = getD visited 0 0; exit = t; arm = w .arm; dropped = gone-listed .0 };
       entrance = refl;
       exit = refl;
@@ -138,15 +135,15 @@ module _ {C : CandidateSet} {table : Table} {visited : List ℕ} {t : ℕ} {best
       on-path = on-path;
       off-path = λ v m.
           let lost = gone-listed .1 .holds v .0 m in
-          rw (w .no-rows, puts-listed settled′ (w .gone) none lost (omega (arith, gone-below keep-siftable (w .passing) (omega arith) lost, p .counted .count-each, p .next-room))) rowless-is;
+          rw (w .no-rows, puts-listed led (w .gone) none lost (omega (arith, gone-below keep-siftable (w .passing) (omega arith) lost, p .counted .count-each, p .next-room))) rowless-is;
       elsewhere = λ v h.
           let off : (i : ℕ) → i < length visited → getD visited i 0 ≡ v → ⊥ = λ i l q. let (f, n) = inside (p .order) i l in n (q ∙ h (rw q at f)) in
-          rw (w .no-rows) (puts-other settled′ (w .gone) none (λ m. let (i, a, b, q) = gone-place (w .passing) m in off i b q) ∙ g .elsewhere v (λ i. off (i .place) (i .inside) (i .stands)));
+          rw (w .no-rows) (puts-other led (w .gone) none (λ m. let (i, a, b, q) = gone-place (w .passing) m in off i b q) ∙ g .elsewhere v (λ i. off (i .place) (i .inside) (i .stands)));
       added = λ j h. rw (← dropped-sum) (added j h);
       emptied = λ v m. let lost = gone-listed .1 .holds v .0 m in off-arm v (λ a. arm-gone (p .order .apart) (w .passing) (omega arith) a lost) ∙ out-gone lost;
       untouched = λ v n. off-arm v (λ a. n (kept-path .arm .inner v a)) ∙ out-other (λ m. n (gone-interior m));
       same-best = best-long;
-      same-next = ap length (w .no-rows) ∙ length-puts settled′ (w .gone) none ∙ next-long;
+      same-next = ap length (w .no-rows) ∙ length-puts led (w .gone) none ∙ next-long;
       same-out = shared .same-out ∙ ap length (w .no-counts) ∙ length-puts out (w .gone) 0;
     }
       where

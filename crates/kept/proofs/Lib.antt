@@ -4,6 +4,7 @@ pub mod OrderLaws
 pub mod CountLaws
 pub mod ChoiceLaws
 pub mod SettleLaws
+pub mod LeadLaws
 -- the kept vertices parted from the dropped ones, the first first
 pub mod PassLaws
 pub mod PathLaws

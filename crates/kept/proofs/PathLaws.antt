@@ -10,7 +10,8 @@ use lib.ListN.{length, getD}
 use Rattle.rule.specs.Lists.{Follows, Follows.here, Follows.later}
 use Rattle.rule.specs.Tables.{count-of}
 use Rattle.rule.proofs.Following.{Begins, Begins.begins, follows-cases, follows-head}
-use Rattle.rule.proofs.ByNext.{ByNext, ByNext.last, ByNext.step, Passed, Passed.begun, Passed.further, passed-all}
+use Rattle.rule.specs.Next.{ByNext, ByNext.last, ByNext.step}
+use Rattle.rule.proofs.ByNext.{Passed, Passed.begun, Passed.further, passed-all}
 use Rattle.sharing.specs.Sharing.{onward}
 use Rattle.kept.specs.Steps.{Passing, Passing.begun, Passing.keeps, Passing.drops}
 use Rattle.kept.proofs.PassLaws.{gone-place}

@@ -1,5 +1,5 @@
 -- What the parts of keeping a path do: what a child is worth, the best child of a row, each visited vertex settled, each kept or dropped. Assumes nothing.
-use Prim.Native.Nat.{ℕ, suc, _+_, _≤_, _<_}
+use Prim.Native.Nat.{ℕ, zero, suc, _+_, _≤_, _<_}
 use mathlib.Core.Path.{_≡_}
 use mathlib.Core.Logic.{_≢_}
 use mathlib.Core.List.{List, [], _∷_, _++_}
@@ -9,14 +9,16 @@ use Rattle.table.specs.Table.{In, Below, countSum, Table, size, edges, SoundTab
 use Rattle.search.specs.Search.{Visited}
 use Rattle.rule.specs.Lists.{sum}
 use Rattle.rule.specs.Tables.{count-of}
-use Rattle.rule.specs.Next.{worth, Settled}
+use Rattle.rule.specs.Kept.{Kept}
+use Rattle.rule.specs.Next.{worth, Settled, ByNext}
+use Rattle.rule.specs.declared.Choosing.{Choosing}
 use Rattle.kept.specs.declared.paths.Along.{Along}
 
 -- what u is worth can be said in 64 bits
 pub record Weighable (counts best : List ℕ) (t u : ℕ) : Type 0 where
   pub counted : u < length counts
   pub room : u < length best
-  pub fits : u ≢ t → getD counts u 0 + getD best u 0 ≤ 18446744073709551615
+  pub fits : u ≢ t → getD counts u 0 + getD best u 0 < 18446744073709551615
 
 -- a row with a child, whose children can be weighed
 pub record Choosable (row counts best : List ℕ) (t : ℕ) : Type 0 where
@@ -24,26 +26,38 @@ pub record Choosable (row counts best : List ℕ) (t : ℕ) : Type 0 where
   pub each : (j : ℕ) → j < length row → Weighable counts best t (getD row j 0)
 
 -- of the first k children of a row none is worth more than this one, and none before it is worth as much
-pub record Chosen (row counts best : List ℕ) (t k child gain : ℕ) : Type 0 where
+pub record Chosen (by : Choosing) (row counts best : List ℕ) (t end k child gain : ℕ) : Type 0 where
   pub place : ℕ
   pub passed : place < k
   pub stands : getD row place 0 ≡ child
-  pub value : gain ≡ worth (count-of counts) t (count-of best) child
-  pub largest : (j : ℕ) → j < k → worth (count-of counts) t (count-of best) (getD row j 0) ≤ gain
-  pub first : (j : ℕ) → j < place → worth (count-of counts) t (count-of best) (getD row j 0) < gain
+  pub value : gain ≡ worth by (count-of counts) t end (count-of best) child
+  pub largest : (j : ℕ) → j < k → worth by (count-of counts) t end (count-of best) (getD row j 0) ≤ gain
+  pub first : (j : ℕ) → j < place → worth by (count-of counts) t end (count-of best) (getD row j 0) < gain
 
--- a table with its counts, and the visiting order of a superbubble less its exit
-pub record Settleable (table : Table) (visited : List ℕ) (t : ℕ) (best next : List ℕ) : Type 0 where
+-- what the exit gains from the visited vertex at a place: the bound, and from the first, which is the entrance, nothing
+abbrev pub end-at : ℕ → ℕ → ℕ
+end-at bound zero = 0
+end-at bound (suc k) = bound
+
+-- a table with its counts, the visiting order of a superbubble less its exit, and a bound of at most one more than a count can be
+pub record Settleable (table : Table) (visited : List ℕ) (t bound : ℕ) (best next : List ℕ) : Type 0 where
   pub counted : SoundTable table
   pub order : Visited (table .rows .starts) (table .rows .targets) visited (getD visited 0 0) t (length visited)
+  pub bounded : bound ≤ read-limit + 1
   pub best-room : size (table .rows) ≤ length best
   pub next-room : size (table .rows) ≤ length next
 
--- the visited vertices from place k on have their best sum and their best child; a sum is at most that of all later counts
-pub record SettledFrom (table : Table) (visited : List ℕ) (t : ℕ) (next : List ℕ) (k : ℕ) (best′ next′ : List ℕ) : Type 0 where
+-- the visited vertices from place k on have their best gain and their best child; a gain is at most the bound and the sum of all later counts
+pub record SettledFrom (by : Choosing) (table : Table) (visited : List ℕ) (t bound : ℕ) (next : List ℕ) (k : ℕ) (best′ next′ : List ℕ) : Type 0 where
   pub settled : (i : ℕ) → k ≤ i → i < length visited
-      → Settled (edges (table .rows)) (count-of (table .counts)) t (count-of best′) (count-of next′) (getD visited i 0)
-  pub most : (i : ℕ) → k ≤ i → i < length visited → getD best′ (getD visited i 0) 0 ≤ sum (count-of (table .counts)) (drop (suc i) visited)
+      → Settled by (edges (table .rows)) (count-of (table .counts)) t (end-at bound i) (count-of best′) (count-of next′) (getD visited i 0)
+  pub most : (i : ℕ) → k ≤ i → i < length visited → getD best′ (getD visited i 0) 0 ≤ bound + sum (count-of (table .counts)) (drop (suc i) visited)
+  pub elsewhere : (v : ℕ) → (In v visited → ⊥) → getD next′ v 0 ≡ getD next v 0
+
+-- from each visited vertex `next` leads to a child, and from the entrance to the exit along the kept path
+pub record Led (by : Choosing) (table : Table) (visited : List ℕ) (t : ℕ) (next next′ : List ℕ) : Type 0 where
+  pub child : (i : ℕ) → i < length visited → edges (table .rows) (getD visited i 0) (getD next′ (getD visited i 0) 0)
+  pub kept : (l : List ℕ) → ByNext (count-of next′) t (getD visited 0 0) l → Kept by (edges (table .rows)) (count-of (table .counts)) (getD visited 0 0) t l
   pub elsewhere : (v : ℕ) → (In v visited → ⊥) → getD next′ v 0 ≡ getD next v 0
 
 -- v can be kept or dropped

@@ -40,7 +40,7 @@ via-distinct {s = s} a p h (then {v = x} e r) =
 pub arm-inside : {E : Graph} {s t : ℕ} {l : List ℕ} → F E s t t → Arm E s t l → (v : ℕ) → List·Memᴰ v (l ++ (t ∷ [])) → F E s t v
 arm-inside {t = t} {l = l} f a v m = ⊎-elim (λ i. a .inner v i .inside) (λ i. let q : v ≡ t = List·Memᴰ·eq-of-singleton i in rw q f) (List·Memᴰ·append-cases l m)
 
-arm-distinct : {E : Graph} {s t : ℕ} {l : List ℕ} → Bubbloid E s t → Arm E s t l → Distinct (s ∷ l ++ (t ∷ []))
+pub arm-distinct : {E : Graph} {s t : ℕ} {l : List ℕ} → Bubbloid E s t → Arm E s t l → Distinct (s ∷ l ++ (t ∷ []))
 arm-distinct b a = via-distinct (b .acyclicity) start (arm-inside (exit-inside b) a) (a .path)
 
 distinct-front : (l k : List ℕ) → Distinct (l ++ k) → Distinct l

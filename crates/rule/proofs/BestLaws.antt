@@ -1,15 +1,17 @@
--- A rule that keeps the best path meets the laws if its score does and its portions come to the whole; the rule of docs/RULES.md, Fold, is one.
+-- A rule that keeps the best path meets the laws if its score does and its portions come to the whole; the rules of docs/RULES.md, Fold, are two.
 -- A kept bare edge means that every interior count is 0. Assumes nothing.
-use Prim.Native.Nat.{ℕ, _≤_, _<_}
-use mathlib.Core.Path.{_≡_, sym, _∙_}
+use Prim.Native.Nat.{ℕ, _+_, _≤_, _<_, min}
+use mathlib.Core.Path.{_≡_, refl, sym, ap, ap₂, _∙_}
 use mathlib.Core.Logic.{inl, ⊎-map}
-use mathlib.Core.List.{List, [], List·Memᴰ, List·Memᴰ·head, List·Memᴰ·tail}
+use mathlib.Core.List.{List, [], _∷_, List·Memᴰ, List·Memᴰ·head, List·Memᴰ·tail, List·Memᴰ·not-nil}
 use native.Mathlib.Omega.{arith}
 use native.Mathlib.Decide.{decLt}
 use Rattle.bubble.specs.Superbubble.{Interior, Bubbloid, Superbubble}
 use Rattle.bubble.proofs.Facts.{exit-inside}
 use Rattle.rule.specs.Lists.{Graph, Counts, sum, total}
-use Rattle.rule.specs.Kept.{Arm, Beats, Best, Kept}
+use Rattle.rule.specs.Kept.{Arm, Beats, Best, least, weakest, score-by, Kept}
+use Rattle.rule.specs.declared.Choosing.{Choosing}
+use Rattle.rule.specs.declared.Choosing.the-variants.{Sum, Weakest}
 use Rattle.rule.specs.Fold.{to-each, kept-shares}
 use Rattle.rule.specs.Laws.{SameInside, RuleLaws, ScoreLaws}
 use Rattle.rule.proofs.Inside.{inside-back, arm-carried}
@@ -53,13 +55,38 @@ count-within : (c : Counts) {v : ℕ} {l : List ℕ} → List·Memᴰ v l → c 
 count-within c (List·Memᴰ·head q) = rw q (omega arith)
 count-within c (List·Memᴰ·tail m) = omega (arith, count-within c m)
 
-pub sum-laws : ScoreLaws sum
+sum-laws : ScoreLaws sum
 sum-laws = record { own = sum-same; bare = λ c l k v m. omega (arith, count-within c m) }
 
--- a kept bare edge means that every interior count is 0, so that nothing dropped is lost
-pub kept-bare-edge : {E : Graph} {c : Counts} {s t : ℕ} → Superbubble E s t → Kept E c s t [] → (v : ℕ) → Interior E s t v → c v ≡ 0
-kept-bare-edge p = best-bare sum-laws (p .bubbloid)
+least-same : {c d : Counts} (v : ℕ) (l : List ℕ) → ((w : ℕ) → List·Memᴰ w (v ∷ l) → c w ≡ d w) → least c v l ≡ least d v l
+least-same v [] h = h v (List·Memᴰ·head refl)
+least-same v (u ∷ l) h = ap₂ min (h v (List·Memᴰ·head refl)) (least-same u l (λ w m. h w (List·Memᴰ·tail m)))
 
--- the rule of docs/RULES.md, Fold, meets the laws
-pub kept-shares-laws : RuleLaws kept-shares
-kept-shares-laws = best-laws sum-laws to-each to-each-whole
+weakest-same : {c d : Counts} (l : List ℕ) → ((v : ℕ) → List·Memᴰ v l → c v ≡ d v) → weakest c l ≡ weakest d l
+weakest-same [] h = refl
+weakest-same (v ∷ l) h = ap (λ (x : ℕ). 1 + x) (least-same v l h)
+
+-- every path with an inner vertex scores more than the bare edge
+weakest-bare : (c : Counts) (l : List ℕ) → weakest c l ≤ weakest c [] → (v : ℕ) → List·Memᴰ v l → c v ≡ 0
+weakest-bare c [] k v m = absurd (List·Memᴰ·not-nil m)
+weakest-bare c (u ∷ l) k v m = absurd (omega arith)
+
+-- both scores meet the laws, so that both rules of docs/RULES.md, Fold, do
+pub score-laws : (by : Choosing) → ScoreLaws (score-by by)
+score-laws Sum = sum-laws
+score-laws Weakest = record { own = weakest-same; bare = weakest-bare }
+
+pub kept-shares-laws : (by : Choosing) → RuleLaws (kept-shares by)
+kept-shares-laws by = best-laws (score-laws by) to-each to-each-whole
+
+-- a kept bare edge means that every interior count is 0, so that nothing dropped is lost
+pub kept-bare-edge : (by : Choosing) {E : Graph} {c : Counts} {s t : ℕ} → Superbubble E s t → Kept by E c s t [] → (v : ℕ) → Interior E s t v → c v ≡ 0
+kept-bare-edge by p = best-bare (score-laws by) (p .bubbloid)
+
+-- by the weakest vertex the bare edge is never kept where there is an interior
+pub weakest-never-bare : {E : Graph} {c : Counts} {s t v : ℕ} → Superbubble E s t → Interior E s t v → Kept Weakest E c s t [] → ⊥
+weakest-never-bare {c = c} p i k = let (l, a, m) = arm-through (p .bubbloid) i in k .unbeaten l a (inl (more l m))
+  where
+    more : {v : ℕ} (l : List ℕ) → List·Memᴰ v l → 0 < weakest c l
+    more [] m = absurd (List·Memᴰ·not-nil m)
+    more (u ∷ l) m = omega arith

@@ -1,14 +1,16 @@
--- Every finite graph without a cycle, with decided edges, has a fold with every budget: the rule asks for nothing that cannot be. Assumes nothing.
+-- Every finite graph without a cycle, with decided edges, has a fold with every budget, by every lawful rule that keeps something: the rules ask for nothing that cannot be. Assumes nothing.
 use Prim.Native.Nat.{ℕ, _+_, _<_}
 use mathlib.Core.Path.{_≡_, refl, sym, ap, ap₂, subst}
 use mathlib.Core.Logic.{⊎-elim}
 use mathlib.Core.List.{List, [], _∷_, List·Memᴰ, List·Memᴰ·head, List·Memᴰ·tail, List·Memᴰ·not-nil, List·Memᴰ·cases-cons, Memᴰ·append-left}
 use lib.ListN.{length, take, drop, getD, take-append-drop}
-use Rattle.bubble.specs.Superbubble.{Interior}
+use Rattle.bubble.specs.Superbubble.{Interior, Superbubble}
 use Rattle.bubble.proofs.Pigeonhole.{getD-in, place-of, distinct-apart}
 use Rattle.bubble.proofs.Number.{Below, interior-below}
 use Rattle.bubble.proofs.Reflect.{decided, decides-member}
 use Rattle.rule.specs.Lists.{Graph, CandidateSet, Counts, Listing, sum}
+use Rattle.rule.specs.Kept.{score-by}
+use Rattle.rule.specs.declared.Choosing.{Choosing}
 use Rattle.rule.specs.Fold.{Rule, NoCycle, Candidate, Entrance, kept-shares, Item, Fits, Applied, GraphFolded}
 use Rattle.rule.specs.Laws.{RuleLaws, CandidateLaws}
 use Rattle.rule.proofs.Together.{entrances, Staying}
@@ -18,7 +20,7 @@ use Rattle.rule.proofs.Budgets.{folded-of}
 use Rattle.rule.proofs.Listings.{listing-exists}
 use Rattle.rule.proofs.BestLaws.{kept-shares-laws}
 use Rattle.rule.proofs.Candidates.{candidate-laws}
-use Rattle.rule.proofs.KeptExists.{kept-exists}
+use Rattle.rule.proofs.BestExists.{best-exists}
 use Rattle.rule.proofs.CandidatesListed.{interior-is-decided, candidates-listed}
 
 module _ {G : Graph → Type 0} {C : CandidateSet} {R : Rule} (L : CandidateLaws G C) (M : RuleLaws R) {E : Graph} {c : Counts} (g : G E)
@@ -78,35 +80,42 @@ module _ {G : Graph → Type 0} {C : CandidateSet} {R : Rule} (L : CandidateLaws
   }
 
 module _ {E : Graph} (decide : (u v : ℕ) → Dec (E u v)) {n : ℕ} (below : Below E n) (acyclic : NoCycle E) (c : Counts) where
-  -- the item of a candidate
-  item-for : (s : ℕ) → Entrance Candidate E s → (i : Item) × (i .entrance ≡ s) × Fits Candidate kept-shares E c i
-  item-for s h =
-      let (t, k) = h in
-      let (arm, best) = kept-exists decide below c (k .outermost .superbubble .bubbloid) in
-      let (dropped, rest) = listing-exists n (off-arm t arm) (λ v p. interior-below below (p .0)) in
-      (record { entrance = s; exit = t; arm = arm; dropped = dropped }, refl, record { candidate = k; kept = best; rest = rest })
-    where
-      off-arm : (t : ℕ) (arm : List ℕ) (v : ℕ) → Dec (Interior E s t v × (List·Memᴰ v arm → ⊥))
-      off-arm t arm v =
-          elim (interior-is-decided decide below s t v) [
-            | no k ↦ no (λ h. k (h .0))
-            | yes i ↦ elim (decided (decides-member v arm)) [ yes m ↦ no (λ h. h .1 m) | no k ↦ yes (i, k) ]
-          ]
+  -- by any lawful rule that keeps something in each superbubble
+  module _ {R : Rule} (M : RuleLaws R) (keeps-some : (s t : ℕ) → Superbubble E s t → (l : List ℕ) × R .keeps E c s t l) where
+    -- the item of a candidate
+    item-for : (s : ℕ) → Entrance Candidate E s → (i : Item) × (i .entrance ≡ s) × Fits Candidate R E c i
+    item-for s h =
+        let (t, k) = h in
+        let (arm, best) = keeps-some s t (k .outermost .superbubble) in
+        let (dropped, rest) = listing-exists n (off-arm t arm) (λ v p. interior-below below (p .0)) in
+        (record { entrance = s; exit = t; arm = arm; dropped = dropped }, refl, record { candidate = k; kept = best; rest = rest })
+      where
+        off-arm : (t : ℕ) (arm : List ℕ) (v : ℕ) → Dec (Interior E s t v × (List·Memᴰ v arm → ⊥))
+        off-arm t arm v =
+            elim (interior-is-decided decide below s t v) [
+              | no k ↦ no (λ h. k (h .0))
+              | yes i ↦ elim (decided (decides-member v arm)) [ yes m ↦ no (λ h. h .1 m) | no k ↦ yes (i, k) ]
+            ]
 
-  items-for : (l : List ℕ) → ((s : ℕ) → List·Memᴰ s l → Entrance Candidate E s)
-      → (items : List Item) × (entrances items ≡ l) × ((i : Item) → List·Memᴰ i items → Fits Candidate kept-shares E c i)
-  items-for [] h = ([], refl, λ i m. absurd (List·Memᴰ·not-nil m))
-  items-for (s ∷ l) h =
-      let (i, q, f) = item-for s (h s (List·Memᴰ·head refl)) in
-      let (items, r, fit) = items-for l (λ x m. h x (List·Memᴰ·tail m)) in
-      (i ∷ items, ap₂ {C = List ℕ} (λ a b. a ∷ b) q r, λ j m. ⊎-elim (λ e. rw e f) (fit j) (List·Memᴰ·cases-cons m))
+    items-for : (l : List ℕ) → ((s : ℕ) → List·Memᴰ s l → Entrance Candidate E s)
+        → (items : List Item) × (entrances items ≡ l) × ((i : Item) → List·Memᴰ i items → Fits Candidate R E c i)
+    items-for [] h = ([], refl, λ i m. absurd (List·Memᴰ·not-nil m))
+    items-for (s ∷ l) h =
+        let (i, q, f) = item-for s (h s (List·Memᴰ·head refl)) in
+        let (items, r, fit) = items-for l (λ x m. h x (List·Memᴰ·tail m)) in
+        (i ∷ items, ap₂ {C = List ℕ} (λ a b. a ∷ b) q r, λ j m. ⊎-elim (λ e. rw e f) (fit j) (List·Memᴰ·cases-cons m))
 
-  -- there is a fold with every budget; by folded-same there is only one
-  pub fold-exists : (budget : ℕ) → (E′ : Graph) × (c′ : Counts) × (folded : ℕ) × (left : ℕ) × GraphFolded Candidate kept-shares E c budget E′ c′ folded left
-  fold-exists budget =
-      let (l, a) = candidates-listed decide below in
-      let listed : (s : ℕ) → List·Memᴰ s (take budget l) → Entrance Candidate E s =
-      λ s m. a .holds s .0 (rw take-append-drop at (Memᴰ·append-left (drop budget l) m)) in
-      let (items, q, fit) = items-for (take budget l) listed in
-      let applied = all-folded candidate-laws kept-shares-laws acyclic items fit l a budget q in
-      (Staying E items, _, length (applied .items), length (drop budget (applied .candidates)), folded-of candidate-laws kept-shares-laws acyclic applied)
+    -- there is a fold with every budget; by folded-same there is only one
+    pub rule-fold-exists : (budget : ℕ) → (E′ : Graph) × (c′ : Counts) × (folded : ℕ) × (left : ℕ) × GraphFolded Candidate R E c budget E′ c′ folded left
+    rule-fold-exists budget =
+        let (l, a) = candidates-listed decide below in
+        let listed : (s : ℕ) → List·Memᴰ s (take budget l) → Entrance Candidate E s =
+        λ s m. a .holds s .0 (rw take-append-drop at (Memᴰ·append-left (drop budget l) m)) in
+        let (items, q, fit) = items-for (take budget l) listed in
+        let applied = all-folded candidate-laws M acyclic items fit l a budget q in
+        (Staying E items, _, length (applied .items), length (drop budget (applied .candidates)), folded-of candidate-laws M acyclic applied)
+
+  -- so with each of the rules of docs/RULES.md, Fold
+  pub fold-exists : (by : Choosing) (budget : ℕ)
+      → (E′ : Graph) × (c′ : Counts) × (folded : ℕ) × (left : ℕ) × GraphFolded Candidate (kept-shares by) E c budget E′ c′ folded left
+  fold-exists by = rule-fold-exists (kept-shares-laws by) (λ s t p. best-exists decide below (score-by by) c (p .bubbloid))

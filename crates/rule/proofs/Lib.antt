@@ -35,11 +35,13 @@ pub mod Outermost
 pub mod TheFold
 -- demand 3
 pub mod Demand
--- the kept path by dynamic programming, and a fold for every graph and budget
-pub mod Pick
+-- the kept path by dynamic programming
+pub mod Worth
 pub mod ByNext
-pub mod KeptExists
+pub mod KeptByNext
+-- a best path for every score, and a fold for every graph and budget
 pub mod CandidatesListed
+pub mod BestExists
 pub mod FoldExists
 -- tables
 pub mod SameTable

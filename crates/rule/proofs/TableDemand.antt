@@ -7,9 +7,9 @@ use Rattle.bubble.specs.Superbubble.{Interior, Superbubble}
 use Rattle.table.specs.Table.{countSum, Table, size, edges, SoundTable}
 use Rattle.table.proofs.RowLaws.{edges-below}
 use Rattle.rule.specs.Lists.{CandidateSet, Listing, total, Same}
-use Rattle.rule.specs.Fold.{Rule, NoCycle, Candidate, Entrance, kept-shares, InTurn, InTurn.once, InTurn.then, budgets-sum}
+use Rattle.rule.specs.Fold.{Rule, NoCycle, Candidate, Entrance, InTurn, InTurn.once, InTurn.then, budgets-sum}
 use Rattle.rule.specs.Way.{Way}
-use Rattle.rule.specs.Laws.{WayLaws}
+use Rattle.rule.specs.Laws.{RuleLaws, WayLaws}
 use Rattle.rule.specs.Tables.{count-of, SameSize, TableFolded, TablesInTurn, TablesInTurn.once, TablesInTurn.then}
 use Rattle.rule.proofs.Coincide.{folded-same}
 use Rattle.rule.proofs.Demand.{as-once, total-stays, no-candidate, gives-back, none-with-interior}
@@ -69,7 +69,7 @@ module _ {way : Way} (laws : WayLaws way) where
           (gives-back (laws .candidates-lawful) (laws .rule-lawful) kind (graphs-in-turn turns) listed enough (f .graph-folded))
 
 -- Of the candidates of docs/RULES.md, Fold: no superbubble with an interior is left.
-pub no-interior-left : {table table′ : Table} {budgets l : List ℕ} → SoundTable table → NoCycle (edges (table .rows))
-    → TablesInTurn Candidate kept-shares table budgets table′ → Listing (Entrance Candidate (edges (table .rows))) l → length l ≤ budgets-sum budgets
+pub no-interior-left : {R : Rule} → RuleLaws R → {table table′ : Table} {budgets l : List ℕ} → SoundTable table → NoCycle (edges (table .rows))
+    → TablesInTurn Candidate R table budgets table′ → Listing (Entrance Candidate (edges (table .rows))) l → length l ≤ budgets-sum budgets
     → (s t : ℕ) → Superbubble (edges (table′ .rows)) s t → (v : ℕ) → Interior (edges (table′ .rows)) s t v → ⊥
-no-interior-left {table} ok acyclic turns = none-with-interior (size (table .rows)) (edges-below (ok .well-formed)) acyclic (graphs-in-turn turns)
+no-interior-left lawful {table} ok acyclic turns = none-with-interior lawful (size (table .rows)) (edges-below (ok .well-formed)) acyclic (graphs-in-turn turns)

@@ -1,4 +1,4 @@
--- Each interior vertex lies on some arm, and in a graph without a cycle each path from entrance to exit is an arm. Assumes nothing.
+-- There is an arm, each interior vertex lies on one, and in a graph without a cycle each path from entrance to exit is an arm. Assumes nothing.
 use Prim.Native.Nat.{ℕ}
 use mathlib.Core.Path.{refl}
 use mathlib.Core.Logic.{_≢_, ⊎-elim}
@@ -40,10 +40,17 @@ module _ {E : Graph} {s t : ℕ} (b : Bubbloid E s t) where
         | no k ↦ from-entrance f (record { inside = f; not-entrance = k; not-exit = n }) (longer e i r) (List·Memᴰ·tail m)
       ]
 
+  -- a tail from s is an arm
+  tail-arm : (r : Tail E s t s) → Arm E s t (r .inner)
+  tail-arm r = record { path = r .path; inner = r .inside }
+
   pub arm-through : {v : ℕ} → Interior E s t v → (l : List ℕ) × Arm E s t l × List·Memᴰ v l
   arm-through {v} i =
       let (r, m) = from-entrance (i .inside) i (to-exit (b .matching v .0 (i .inside)) (i .not-exit)) (List·Memᴰ·head refl) in
-      (r .inner, record { path = r .path; inner = r .inside }, m)
+      (r .inner, tail-arm r, m)
+
+  pub some-arm : (l : List ℕ) × Arm E s t l
+  some-arm = let r = to-exit (b .matching s .0 start) (b .distinct) in (r .inner, tail-arm r)
 
 module _ {E : Graph} (a : NoCycle E) where
   -- each vertex of a path to t leads to t

@@ -1,5 +1,5 @@
 -- The fold of docs/RULES.md, Fold, as a definition over any graph with counts: candidates, sets, kept paths and sums are those of the graph handed in.
--- The candidates and the rule are arguments; `Candidate` and `kept-shares` are those of docs/RULES.md. Assumes nothing.
+-- The candidates and the rule are arguments; `Candidate` and, by version, `kept-shares` are those of docs/RULES.md. Assumes nothing.
 use Prim.Native.Nat.{ℕ, _+_, _/_, _%_, _<_}
 use mathlib.Core.Path.{_≡_}
 use mathlib.Core.Logic.{_↔_, ite}
@@ -9,6 +9,7 @@ use lib.ListN.{length, take, getD}
 use Rattle.bubble.specs.Superbubble.{F, Walk, Interior, Outermost}
 use Rattle.rule.specs.Lists.{Graph, CandidateSet, Counts, Listing, sum, Follows}
 use Rattle.rule.specs.Kept.{Kept}
+use Rattle.rule.specs.declared.Choosing.{Choosing}
 
 -- the graphs that docs/RULES.md folds: no walk of one or more edges closes
 abbrev pub NoCycle : Graph → Type 0
@@ -32,9 +33,9 @@ one-more r j = ite (decLt j r) 1 0
 abbrev pub to-each : ℕ → ℕ → ℕ → ℕ
 to-each d k j = d / k + one-more (d % k) j
 
--- the rule of docs/RULES.md, Fold: the best path is kept, and its inner vertices share what is dropped
-abbrev pub kept-shares : Rule
-kept-shares = record { keeps = Kept; portion = to-each }
+-- the rules of docs/RULES.md, Fold: the best path is kept, and its inner vertices share what is dropped
+abbrev pub kept-shares : Choosing → Rule
+kept-shares by = record { keeps = Kept by; portion = to-each }
 
 -- a vertex that is the entrance of a candidate
 abbrev pub Entrance : CandidateSet → Graph → ℕ → Type 0

@@ -1,10 +1,12 @@
 -- The kept path: which of the paths from an entrance to an exit is the best. Assumes nothing.
-use Prim.Native.Nat.{ℕ, _<_}
+use Prim.Native.Nat.{ℕ, _+_, _<_, min}
 use mathlib.Core.Path.{_≡_}
 use mathlib.Core.Logic.{_⊎_}
 use mathlib.Core.List.{List, [], _∷_, _++_, List·Memᴰ}
 use Rattle.bubble.specs.Superbubble.{Interior}
 use Rattle.rule.specs.Lists.{Graph, Counts, sum}
+use Rattle.rule.specs.declared.Choosing.{Choosing}
+use Rattle.rule.specs.declared.Choosing.the-variants.{Sum, Weakest}
 
 -- a path from a vertex to t, given by its inner vertices; the bare edge has none
 pub data Via (E : Graph) (t : ℕ) : ℕ → List ℕ → Type 0 where
@@ -30,6 +32,22 @@ pub record Best (score : Counts → List ℕ → ℕ) (E : Graph) (c : Counts) (
   pub arm : Arm E s t l
   pub unbeaten : (k : List ℕ) → Arm E s t k → Beats (score c) t k l → ⊥
 
--- docs/RULES.md, Fold: a path from entrance to exit with the largest sum of counts over its inner vertices; the bare edge has sum 0
-abbrev pub Kept : Graph → Counts → ℕ → ℕ → List ℕ → Type 0
-Kept = Best sum
+-- the least of the counts of v and of the listed vertices
+abbrev pub least : Counts → ℕ → List ℕ → ℕ
+least c v [] = c v
+least c v (u ∷ l) = min (c v) (least c u l)
+
+-- by its weakest vertex a path scores one more than the least count of its inner vertices, and the bare edge, which has none, scores less than any other path
+abbrev pub weakest : Counts → List ℕ → ℕ
+weakest c [] = 0
+weakest c (v ∷ l) = 1 + least c v l
+
+-- docs/RULES.md, Fold: version 1 keeps a path with the largest sum of counts over its inner vertices, and the bare edge has sum 0; version 2 one with the largest least
+-- count, and never the bare edge
+abbrev pub score-by : Choosing → Counts → List ℕ → ℕ
+score-by Sum = sum
+score-by Weakest = weakest
+
+-- the path that is kept
+abbrev pub Kept : Choosing → Graph → Counts → ℕ → ℕ → List ℕ → Type 0
+Kept by = Best (score-by by)

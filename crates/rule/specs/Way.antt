@@ -1,10 +1,11 @@
--- A way of folding: which graphs it takes, and what is asked for that; its candidates; its rule. `the-fold` is that of docs/RULES.md, Fold. Assumes nothing.
+-- A way of folding: which graphs it takes, and what is asked for that; its candidates; its rule. `the-fold` has those of docs/RULES.md, Fold. Assumes nothing.
 use mathlib.Core.List.{List, [], _∷_}
 use Rattle.table.specs.Verdict.{Demand}
 use Rattle.table.specs.Table.{Rows, edges}
 use Rattle.bubble.specs.Cycle.{Cyclic}
 use Rattle.rule.specs.Lists.{Graph, CandidateSet}
 use Rattle.rule.specs.Fold.{NoCycle, Candidate, Rule, kept-shares}
+use Rattle.rule.specs.declared.Choosing.{Choosing}
 
 -- 9: the table has a directed cycle
 abbrev pub noCycle : Rows → Demand
@@ -18,6 +19,10 @@ pub record Way : Type 1 where
   pub candidates : CandidateSet
   pub rule : Rule
 
--- the fold of docs/RULES.md: of tables without a directed cycle
-abbrev pub the-fold : Way
-the-fold = record { Kind = NoCycle; asked = λ rows. noCycle rows ∷ []; candidates = Candidate; rule = kept-shares }
+-- of graphs without a directed cycle the outermost superbubbles with an interior, by a rule
+abbrev pub fold-with : Rule → Way
+fold-with R = record { Kind = NoCycle; asked = λ rows. noCycle rows ∷ []; candidates = Candidate; rule = R }
+
+-- the folds of docs/RULES.md
+abbrev pub the-fold : Choosing → Way
+the-fold by = fold-with (kept-shares by)

@@ -78,7 +78,7 @@ same-length-5 c = search needs
 returns : tie.Need-returns
 returns c = let call = after-fold-all c .fold-all in
     let found = after-find (after-fold-all c .before) in
-    turn-done (entry (after-parents (found .before)) .pre .1) (found .find .ensures) (call .kept .1 .1 .1 .1 .1 .1 .1 .1 .0) (call .kept .1 .1 .1 .1 .1 .1 .1 .1 .1 .0) (call .ensures)
+    turn-done (entry (after-parents (found .before)) .pre .1) (found .find .ensures) (call .kept .1 .1 .1 .1 .1 .1 .1 .1 .1 .0) (call .kept .1 .1 .1 .1 .1 .1 .1 .1 .1 .1 .0) (call .ensures)
 
 pub turn-in-spec : {M : Type 1} → statement M
 turn-in-spec =

@@ -5,7 +5,7 @@ use native.Mathlib.Omega.{arith}
 use lib.ListN.{length}
 use borrow.Author.Needs.{needs}
 use Rattle.table.specs.Table.{vertices}
-use Rattle.rule.specs.Way.{the-fold}
+use Rattle.rule.specs.Fold.{Candidate}
 use Rattle.candidates.specs.Steps.{Scan}
 use Rattle.candidates.proofs.PassLaws.{candidate-by-entrance}
 use Rattle.candidates.proofs.ScanLaws.{scan-start, scan-done}
@@ -14,7 +14,7 @@ use Rattle.candidates.proofs.finding.find.Tie as tie
 
 abbrev Inv-loop : tie.InvT-loop
 Inv-loop starts targets parents pending₀ order₀ exits₀ n s₀ pending order exits s =
-    (n ≡ vertices starts) × (length order ≡ length order₀) × Scan (the-fold .candidates) (record { starts = starts; targets = targets }) parents pending order exits s
+    (n ≡ vertices starts) × (length order ≡ length order₀) × Scan Candidate (record { starts = starts; targets = targets }) parents pending order exits s
 
 abbrev μ-loop : tie.MeasureT-loop
 μ-loop starts targets parents pending₀ order₀ exits₀ n s₀ pending order exits s = n - s

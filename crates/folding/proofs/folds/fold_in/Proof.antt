@@ -39,11 +39,11 @@ turn-requires c κs = room-ready (entry (c .before .before) .pre)
 
 write-table-requires : tie.Need-write-table-requires
 write-table-requires c κs = let pre = entry (after-rows c) .pre in
-    turned-writable the-fold-lawful (pre .counted) (pre .kind) (after-turn c .turn .ensures) (pre .room .0) (pre .room .1)
+    turned-writable (the-fold-lawful (entry (after-rows c) .args .by)) (pre .counted) (pre .kind) (after-turn c .turn .ensures) (pre .room .0) (pre .room .1)
 
-sub-t13 : tie.Need-sub-t13
-sub-t13 c = let pre = entry (after-rows (after-write-table c .before)) .pre in
-    folded-most the-fold-lawful (pre .counted) (pre .kind) (after-turn (after-write-table c .before) .turn .ensures)
+sub-t14 : tie.Need-sub-t14
+sub-t14 c = let pre = entry (after-rows (after-write-table c .before)) .pre in
+    folded-most (the-fold-lawful (entry (after-rows (after-write-table c .before)) .args .by)) (pre .counted) (pre .kind) (after-turn (after-write-table c .before) .turn .ensures)
 
 same-length : tie.Need-same-length
 same-length c = search needs
@@ -59,7 +59,7 @@ same-length-4 c = search needs
 
 returns : tie.Need-returns
 returns c = let pre = entry (after-rows (after-write-table c .before)) .pre in
-    (refl, folded-at the-fold-lawful (pre .counted) (pre .kind) (after-turn (after-write-table c .before) .turn .ensures) (after-write-table c .write-table .ensures))
+    (refl, folded-at (the-fold-lawful (entry (after-rows (after-write-table c .before)) .args .by)) (pre .counted) (pre .kind) (after-turn (after-write-table c .before) .turn .ensures) (after-write-table c .write-table .ensures))
 
 pub fold-in-spec : {M : Type 1} → statement M
 fold-in-spec =
@@ -72,7 +72,7 @@ fold-in-spec =
     slice-aggregate-turn
     turn-requires
     write-table-requires
-    sub-t13
+    sub-t14
     same-length
     same-length-2
     same-length-3

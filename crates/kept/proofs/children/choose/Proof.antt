@@ -11,10 +11,10 @@ use Rattle.kept.proofs.children.choose.Statement.{statement}
 use Rattle.kept.proofs.children.choose.Tie as tie
 
 abbrev Inv-loop : tie.InvT-loop
-Inv-loop row counts best t child₀ gain₀ k₀ child gain k = (k ≤ length row) × Chosen row counts best t k child gain
+Inv-loop by row counts best t end child₀ gain₀ k₀ child gain k = (k ≤ length row) × Chosen by row counts best t end k child gain
 
 abbrev μ-loop : tie.MeasureT-loop
-μ-loop row counts best t child₀ gain₀ k₀ child gain k = length row - k
+μ-loop by row counts best t end child₀ gain₀ k₀ child gain k = length row - k
 
 -- The places that the needs look back to, each seen from a place nearer to them.
 abbrev entry : tie.After-shared-slice-known4 Inv-loop μ-loop → tie.Start Inv-loop μ-loop

@@ -12,22 +12,22 @@ use Rattle.kept.proofs.paths.settle.Statement.{statement}
 use Rattle.kept.proofs.paths.settle.Tie as tie
 
 abbrev Inv-loop : tie.InvT-loop
-Inv-loop starts targets counts visited t best₀ next₀ k₀ best next k =
+Inv-loop by starts targets counts visited t bound best₀ next₀ k₀ best next k =
     (k ≤ length visited) × (length best ≡ length best₀) × (length next ≡ length next₀)
-    × SettledFrom (record { rows = record { starts = starts; targets = targets }; counts = counts }) visited t next₀ k best next
+    × SettledFrom by (record { rows = record { starts = starts; targets = targets }; counts = counts }) visited t bound next₀ k best next
 
 abbrev μ-loop : tie.MeasureT-loop
-μ-loop starts targets counts visited t best₀ next₀ k₀ best next k = k
+μ-loop by starts targets counts visited t bound best₀ next₀ k₀ best next k = k
 
 -- The places that the needs look back to, each seen from a place nearer to them.
 abbrev entry : tie.At-loop Inv-loop μ-loop → tie.Start Inv-loop μ-loop
 entry c = c .before .before .before .before .before .before .before
 
 abbrev at-loop : tie.After-choose-arg Inv-loop μ-loop → tie.At-loop Inv-loop μ-loop
-at-loop c = c .before .before .before .before
+at-loop c = c .before .before .before .before .before
 
 abbrev in-loop : tie.After-choose Inv-loop μ-loop → tie.In-loop Inv-loop μ-loop
-in-loop c = c .before .before .before .before
+in-loop c = c .before .before .before .before .before
 
 -- the vertex of this turn
 below : (c : tie.In-loop Inv-loop μ-loop) →
@@ -40,7 +40,7 @@ below c = let st = entry (c .before) in
 later : (c : tie.In-loop Inv-loop μ-loop) →
     let lent = entry (c .before) .args in
     let at = c .before .loop in
-    SettledFrom (record { rows = record { starts = lent .starts .now; targets = lent .targets .now }; counts = lent .counts .now }) (lent .visited .now) (lent .t)
+    SettledFrom (lent .by) (record { rows = record { starts = lent .starts .now; targets = lent .targets .now }; counts = lent .counts .now }) (lent .visited .now) (lent .t) (lent .bound)
     (lent .next .now) (suc (at .k - 1)) (at .best) (at .next)
 later c = let at = c .before .loop in
     let one : suc (at .k - 1) ≡ at .k = omega arith in
@@ -66,14 +66,18 @@ shared-slice-read-v c = omega arith
 cast-v : tie.Need-cast-v Inv-loop μ-loop
 cast-v c = omega (arith, c .shared-slice-known5 .given (c .before .before .loop .k - 1))
 
+end-from-requires : tie.Need-end-from-requires Inv-loop μ-loop
+end-from-requires c κs = search needs
+
 row-requires : tie.Need-row-requires Inv-loop μ-loop
-row-requires c κs = let p = entry (c .before .before) .pre in
-    row-lies _ _ (p .counted .well-formed .starts-fit) _ (below (c .before))
+row-requires c κs = let p = entry (c .before .before .before) .pre in
+    row-lies _ _ (p .counted .well-formed .starts-fit) _ (below (c .before .before))
 
 choose-requires : tie.Need-choose-requires Inv-loop μ-loop
 choose-requires c κs = let p = entry (at-loop c) .pre in
     let at = at-loop c .loop in
-    rw (c .before .row .ensures) (settle-choosable p (at .k - 1) (omega arith) (later (c .before .before .before)) (omega (arith, p .best-room, at .inv .1)) (omega (arith, p .next-room, at .inv .2)))
+    let settled = later (c .before .before .before .before) in
+    rw (c .before .row .ensures) (settle-choosable p (at .k - 1) (omega arith) settled (omega (arith, p .best-room, at .inv .1)) (omega (arith, p .next-room, at .inv .2)))
 
 mul-best : tie.Need-mul-best Inv-loop μ-loop
 mul-best c = omega (arith, below (in-loop c), entry (at-loop (c .before)) .pre .best-room, at-loop (c .before) .loop .inv .1)
@@ -93,7 +97,7 @@ loop-less c = omega arith
 loop-again : tie.Need-loop-again Inv-loop μ-loop
 loop-again c = let p = entry (at-loop (c .before)) .pre in
     let at = at-loop (c .before) .loop in
-    let chosen = rw (c .before .before .row .ensures) at (c .choose .ensures) in (
+    let chosen = rw (c .before .before .row .ensures, c .before .before .before .end-from .ensures) at (c .choose .ensures) in (
       omega arith,
       simp length-set (at .inv .1),
       simp length-set (at .inv .2),
@@ -121,6 +125,7 @@ settle-spec =
     mul-v
     shared-slice-read-v
     cast-v
+    end-from-requires
     row-requires
     choose-requires
     mul-best

@@ -1,4 +1,4 @@
--- `folding::folds::fold` meets its contract: the table's check, room, the cycle test, and the fold. Assumes nothing.
+-- `folding::folds::fold_by` meets its contract: the table's check, room, the cycle test, and the fold. Assumes nothing.
 use mathlib.Core.Path.{refl}
 use mathlib.Core.Logic.{inl}
 use native.Mathlib.Omega.{arith}
@@ -9,8 +9,8 @@ use Rattle.rule.proofs.TheFold.{acyclic-folds}
 use Rattle.folding.specs.Folding.{foldRoom}
 use Rattle.folding.proofs.VerdictLaws.{refused-by-table, refused-by-room, refused-by-way, fold-taken}
 use borrow.Author.Needs.{needs}
-use Rattle.folding.proofs.folds.fold.Statement.{statement}
-use Rattle.folding.proofs.folds.fold.Tie as tie
+use Rattle.folding.proofs.folds.fold_by.Statement.{statement}
+use Rattle.folding.proofs.folds.fold_by.Tie as tie
 
 -- The places that the needs look back to, each seen from a place nearer to them.
 abbrev entry : tie.After-check-counted → tie.Start
@@ -124,8 +124,8 @@ returns-6 c = let call = after-fold-in c .before in
     fold-taken {table = handed st} {lent = lent st} {answer = done .result} (sound (in-else1 (after-cyclic call))) (done .ensures .0) (has-room (in-else4 call))
     (no-cycle (in-else5 call), tt) (done .ensures .1)
 
-pub fold-spec : {M : Type 1} → statement M
-fold-spec =
+pub fold-by-spec : {M : Type 1} → statement M
+fold-by-spec =
     tie.close
     (tie.spec
     check-counted-requires
