@@ -1,5 +1,5 @@
--- The line of a fold put word by word, and what fold delivers: of a well-formed table, and of the table in an image, in every lawful way. Assumes nothing.
-use Prim.Native.Nat.{ℕ, _+_, _≤_}
+-- The line of a fold put word by word, and what fold delivers: of a well-formed table with its lengths, and of what an image holds, in every lawful way. Assumes nothing.
+use Prim.Native.Nat.{ℕ, _+_, _-_, _≤_}
 use mathlib.Core.Path.{_≡_, refl, sym, ap, subst, _∙_}
 use mathlib.Core.List.{List, [], _∷_}
 use native.Mathlib.Omega.{arith}
@@ -12,7 +12,8 @@ use Rattle.table.specs.Lent.{fronts}
 use Rattle.table.proofs.VerdictLaws.{accepted, goes-on, stops, met-is-passed, met-are-passed}
 use Rattle.table.proofs.Accepted.{counted-meets}
 use Rattle.table.proofs.FrontLaws.{fronts-are}
-use Rattle.layout.specs.Image.{largest-image, tableOf, imageOf}
+use Rattle.layout.specs.Lengths.{lengthCount}
+use Rattle.layout.specs.Image.{Contents, SoundContents, largest-image, imageOf, versionOf, tableOf, contentsOf}
 use Rattle.layout.proofs.ImageLaws.{image-length}
 use Rattle.layout.proofs.Limits.{length-most}
 use Rattle.image.specs.declared.header.Sizes.{Sizes}
@@ -20,7 +21,7 @@ use Rattle.image.specs.Contracts.{imageDemands, Looked}
 use Rattle.image.proofs.LookLaws.{looked-met}
 use Rattle.writing.specs.declared.Extent.{Extent}
 use Rattle.writing.specs.Writing.{Written}
-use Rattle.writing.proofs.WriteLaws.{table-written}
+use Rattle.writing.proofs.WriteLaws.{contents-written}
 use Rattle.rule.specs.Way.{Way}
 use Rattle.rule.specs.Laws.{WayLaws}
 use Rattle.rule.specs.Tables.{TableFolded}
@@ -57,10 +58,10 @@ put-folded folded left edges word number word-left number-left word-edges number
 -- ---- A refusal.
 
 -- the line of a refusal, and nothing is written
-pub refusal-delivers : {way : Way} {demands : List Demand} {table : Table} {budget : ℕ} {out out′ new : List ℕ} {answers : Answers} {number : ℕ}
+pub refusal-delivers : {way : Way} {demands : List Demand} {version : ℕ} {contents : Contents} {budget : ℕ} {out out′ new : List ℕ} {answers : Answers} {number : ℕ}
     → (number ≡ 0 → ⊥) → Verdict demands number
     → (answers .number ≡ number) × (answers .image ≡ 0) × AtFront (text (refusalLines number)) out out′ (answers .line)
-    → FoldDelivered way demands table budget out out′ new new answers
+    → FoldDelivered way demands version contents budget out out′ new new answers
 refusal-delivers {new = new} {number = number} refusal verdict (same, none, at) =
     record {
       printed = text (refusalLines number);
@@ -119,29 +120,45 @@ fold-leaves {way} {table} {budget} {lent} {after} {answer} laws ok room done e =
 
 -- ---- The line and the image of the new table.
 
--- with room for the largest image, the image of a well-formed table stands at the front
-pub image-at-front : {table : Table} {new new′ : List ℕ} {extent : Extent} → SoundTable table → length new ≡ largest-image → Written table new new′ extent
-    → AtFront (imageOf table) new new′ (extent .length)
-image-at-front {table} {new} {extent = extent} sound long written =
-    let rows = sound .well-formed in
-    let most = length-most (size (table .rows)) (length (table .rows .targets)) (omega (arith, rows)) (rows .most-edges) in
-    let (length-is, whole) = written .taken (table-written sound (omega arith) written) in
-    record { long = length-is ∙ sym (image-length table sound); whole = whole }
+-- the new table with the lengths as they were
+abbrev pub new-contents : Contents → Table → Folded → Contents
+new-contents contents after answer = record { table = fronts (size (contents .table .rows)) (answer .edges) after; lengths = contents .lengths }
+
+-- they are sound
+pub new-sound : {way : Way} {version : ℕ} {contents : Contents} {budget : ℕ} {after : Table} {answer : Folded} → SoundContents version contents
+    → LeftTable way (contents .table) budget after answer → SoundContents version (new-contents contents after answer)
+new-sound {version = version} sound left =
+    record {
+      known = sound .known;
+      counted = left .sound;
+      length-each = sound .length-each ∙ ap (λ (k : ℕ). lengthCount version (k - 1)) (sym (left .table-folded .same-size .as-many-vertices));
+      positive = sound .positive;
+      sixteen-bits = sound .sixteen-bits;
+    }
+
+-- with room for the largest image, the image of sound contents stands at the front
+pub image-at-front : {version : ℕ} {contents : Contents} {new new′ : List ℕ} {extent : Extent} → SoundContents version contents → length new ≡ largest-image
+    → Written version contents new new′ extent → AtFront (imageOf version contents) new new′ (extent .length)
+image-at-front {version} {contents} {new} {extent = extent} sound long written =
+    let rows = sound .counted .well-formed in
+    let table = contents .table in
+    let most = length-most version (size (table .rows)) (length (table .rows .targets)) (omega (arith, rows)) (rows .most-edges) in
+    let (length-is, whole) = written .taken (contents-written sound (omega (arith, most, long)) written) in
+    record { long = length-is ∙ sym (image-length version contents (sound .counted) (sound .length-each)); whole = whole }
 
 -- what an accepted fold delivers
-pub fold-delivers : {way : Way} {table : Table} {budget : ℕ} {after : Table} {answer : Folded} {out out′ new new′ : List ℕ} {answers : Answers}
-    → LeftTable way table budget after answer → answers .number ≡ 0
+pub fold-delivers : {way : Way} {version : ℕ} {contents : Contents} {budget : ℕ} {after : Table} {answer : Folded} {out out′ new new′ : List ℕ} {answers : Answers}
+    → LeftTable way (contents .table) budget after answer → answers .number ≡ 0
     → AtFront (text (foldLines (answer .folded) (answer .left) (answer .edges))) out out′ (answers .line)
-    → AtFront (imageOf (fronts (size (table .rows)) (answer .edges) after)) new new′ (answers .image)
-    → FoldDelivered way (way .asked (table .rows)) table budget out out′ new new′ answers
-fold-delivers {way} {table} {budget} {after} {answer} left none line-front image-front =
-    let result = fronts (size (table .rows)) (answer .edges) after in
+    → AtFront (imageOf version (new-contents contents after answer)) new new′ (answers .image)
+    → FoldDelivered way (way .asked (contents .table .rows)) version contents budget out out′ new new′ answers
+fold-delivers {version = version} {contents} {after = after} {answer} left none line-front image-front =
     record {
       printed = text (foldLines (answer .folded) (answer .left) (answer .edges));
-      written = imageOf result;
+      written = imageOf version (new-contents contents after answer);
       verdict = rw none (left .verdict);
       taken = λ _. record {
-        result = result;
+        result = new-contents contents after answer .table;
         folded = answer .folded;
         left = answer .left;
         table-folded = left .table-folded;
@@ -158,23 +175,28 @@ fold-delivers {way} {table} {budget} {after} {answer} left none line-front image
 -- ---- From the bytes of an image.
 
 -- the line of the refusal of an image
-pub image-refused : {way : Way} {image : List ℕ} {budget : ℕ} {sizes : Sizes} {out out′ new : List ℕ} {answers : Answers} → Looked image sizes
+pub image-refused : (ways : ℕ → Way) {image : List ℕ} {budget : ℕ} {sizes : Sizes} {out out′ new : List ℕ} {answers : Answers} → Looked image sizes
     → (sizes .number ≡ 0 → ⊥)
     → (answers .number ≡ sizes .number) × (answers .image ≡ 0) × AtFront (text (refusalLines (sizes .number))) out out′ (answers .line)
-    → FoldAnswer way image budget out out′ new new answers
-image-refused {way} {image} {sizes = sizes} looked refusal =
-    refusal-delivers refusal (stops (imageDemands image) (way .asked (tableOf image .rows)) (sizes .number) refusal (looked .verdict))
+    → FoldAnswer ways image budget out out′ new new answers
+image-refused ways {image} {sizes = sizes} looked refusal =
+    refusal-delivers refusal (stops (imageDemands image) (ways (versionOf image) .asked (tableOf image .rows)) (sizes .number) refusal (looked .verdict))
 
--- what is delivered of the table of an image that look accepts
-pub image-folded : {way : Way} {image : List ℕ} {sizes : Sizes} {table : Table} {budget : ℕ} {out out′ new new′ : List ℕ} {answers : Answers} → Looked image sizes
-    → sizes .number ≡ 0 → table ≡ tableOf image → FoldDelivered way (way .asked (table .rows)) table budget out out′ new new′ answers
-    → FoldAnswer way image budget out out′ new new′ answers
-image-folded {way} {image} {budget = budget} {out} {out′} {new} {new′} {answers} looked e same done =
-    let moved = subst (λ (t : Table). FoldDelivered way (way .asked (t .rows)) t budget out out′ new new′ answers) same done in
+-- what is delivered of the contents of an image that look accepts
+pub image-folded : (ways : ℕ → Way) {image : List ℕ} {sizes : Sizes} {version : ℕ} (contents : Contents) {budget : ℕ} {out out′ new new′ : List ℕ} {answers : Answers}
+    → Looked image sizes → sizes .number ≡ 0 → version ≡ versionOf image → contents ≡ contentsOf image
+    → FoldDelivered (ways version) (ways version .asked (contents .table .rows)) version contents budget out out′ new new′ answers
+    → FoldAnswer ways image budget out out′ new new′ answers
+image-folded ways {image} contents {budget = budget} {out} {out′} {new} {new′} {answers} looked e same-version same done =
+    let moved-version =
+    subst (λ (v : ℕ). FoldDelivered (ways v) (ways v .asked (contents .table .rows)) v contents budget out out′ new new′ answers) same-version done in
+    let moved =
+    subst (λ (c : Contents). FoldDelivered (ways (versionOf image)) (ways (versionOf image) .asked (c .table .rows)) (versionOf image) c budget out out′ new new′ answers)
+    same moved-version in
     record {
       printed = moved .printed;
       written = moved .written;
-      verdict = goes-on (imageDemands image) (way .asked (tableOf image .rows)) (answers .number) (looked-met looked e) (moved .verdict);
+      verdict = goes-on (imageDemands image) (ways (versionOf image) .asked (tableOf image .rows)) (answers .number) (looked-met looked e) (moved .verdict);
       taken = moved .taken;
       refused = moved .refused;
       line-front = moved .line-front;

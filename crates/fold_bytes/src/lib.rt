@@ -1,12 +1,12 @@
 // Fold, from the bytes of an image and a budget to the bytes of the line that is printed and of the image that is written.
 ghost use mathlib.Core.Path.{_≡_};
 ghost use Rattle.io.specs.Counts.{Counts};
-ghost use Rattle.table.specs.Table.{Counted};
-ghost use Rattle.rule.specs.Way.{the-fold};
+ghost use Rattle.layout.specs.Image.{SoundContents};
 ghost use Rattle.texts.specs.Text.{text, refusalLines, foldLines};
 ghost use Rattle.printing.specs.Put.{AtFront};
-ghost use Rattle.fold_bytes.specs.Image.{FoldDelivered, TheFoldAnswer};
+ghost use Rattle.fold_bytes.specs.Image.{choosing-of, fold-of, FoldDelivered, TheFoldAnswer};
 use layout::Header;
+use rule::Choosing;
 use table::EDGE_LIMIT;
 use table::START_LIMIT;
 use table::VERTEX_LIMIT;
@@ -51,11 +51,23 @@ fn refused(out: &mut [u8; LONGEST], number: u32) -> Answers
     }
 }
 
-// Folds a table into the second set of arrays, and puts the line and the image of the new table, or the line of a refusal.
-fn fold_table(
+// By which rule an image of a version is folded.
+fn choosing(version: u32) -> Choosing
+    ensures { λ r. ⌜ r ≡ choosing-of version ⌝ }
+{
+    if version == Header::VERSION_2 {
+        return Choosing::Weakest;
+    }
+    Choosing::Sum
+}
+
+// Folds a table by the rule of its version into the second set of arrays, and puts the line and the image of the new table with its lengths, or the line of a refusal.
+fn fold_contents(
+    version: u32,
     starts: &[u32],
     targets: &[u32],
     counts: &[u64],
+    lengths: &[u16],
     budget: u32,
     starts2: &mut [u32; START_LIMIT],
     targets2: &mut [u32; EDGE_LIMIT],
@@ -63,13 +75,24 @@ fn fold_table(
     out: &mut [u8; LONGEST],
     new: &mut [u8; Header::LARGEST],
 ) -> Answers
-    requires { ⌜ Counted (now starts) (now targets) (now counts) ⌝ }
+    requires { ⌜
+        SoundContents
+        version
+        (record {
+          table = record { rows = record { starts = now starts; targets = now targets }; counts = now counts };
+          lengths = now lengths;
+        })
+        ⌝ }
     ensures { λ r.
         ⌜
         FoldDelivered
-        the-fold
-        (the-fold .asked (record { starts = now (starts .entry); targets = now (targets .entry) }))
-        (record { rows = record { starts = now (starts .entry); targets = now (targets .entry) }; counts = now (counts .entry) })
+        (fold-of version)
+        (fold-of version .asked (record { starts = now (starts .entry); targets = now (targets .entry) }))
+        version
+        (record {
+          table = record { rows = record { starts = now (starts .entry); targets = now (targets .entry) }; counts = now (counts .entry) };
+          lengths = now (lengths .entry);
+        })
         budget
         (now (out .entry))
         (now (out .exit))
@@ -78,7 +101,17 @@ fn fold_table(
         r
         ⌝ }
 {
-    let folded = folding::fold(starts, targets, counts, budget, starts2, targets2, counts2);
+    let by = choosing(version);
+    let folded = folding::fold_by(
+        by,
+        starts,
+        targets,
+        counts,
+        budget,
+        starts2,
+        targets2,
+        counts2,
+    );
     if folded.number != 0 {
         return refused(out, folded.number);
     }
@@ -87,7 +120,14 @@ fn fold_table(
     let starts2: &[u32] = starts2;
     let targets2: &[u32] = targets2;
     let counts2: &[u64] = counts2;
-    let extent = writing::write(&starts2[..n + 1], &targets2[..m], &counts2[..n], new);
+    let extent = writing::write_version(
+        version,
+        &starts2[..n + 1],
+        &targets2[..m],
+        &counts2[..n],
+        lengths,
+        new,
+    );
     Answers {
         number: 0,
         line: put_fold(out, folded.folded, folded.left, m),
@@ -102,6 +142,7 @@ fn answer_with(
     starts: &mut [u32; START_LIMIT],
     targets: &mut [u32; EDGE_LIMIT],
     counts: &mut [u64; VERTEX_LIMIT],
+    lengths: &mut [u16; VERTEX_LIMIT],
     starts2: &mut [u32; START_LIMIT],
     targets2: &mut [u32; EDGE_LIMIT],
     counts2: &mut [u64; VERTEX_LIMIT],
@@ -114,19 +155,24 @@ fn answer_with(
         ⌝ }
     ensures { λ r. ⌜ Counts (r .line) (now (out .exit)) × Counts (r .image) (now (new .exit)) ⌝ }
 {
-    let sizes = taking::take_in(image, starts, targets, counts);
+    let sizes = taking::take_in(image, starts, targets, counts, lengths);
     if sizes.number != 0 {
         return refused(out, sizes.number);
     }
+    let version = sizes.version;
     let n = sizes.vertices;
     let m = sizes.edges;
+    let k = Header::lengths(version, n);
     let starts: &[u32] = starts;
     let targets: &[u32] = targets;
     let counts: &[u64] = counts;
-    fold_table(
+    let lengths: &[u16] = lengths;
+    fold_contents(
+        version,
         &starts[..n + 1],
         &targets[..m],
         &counts[..n],
+        &lengths[..k],
         budget,
         starts2,
         targets2,
@@ -152,6 +198,7 @@ pub fn answer(
     let mut starts = [0u32; START_LIMIT];
     let mut targets = [0u32; EDGE_LIMIT];
     let mut counts = [0u64; VERTEX_LIMIT];
+    let mut lengths = [0u16; VERTEX_LIMIT];
     let mut starts2 = [0u32; START_LIMIT];
     let mut targets2 = [0u32; EDGE_LIMIT];
     let mut counts2 = [0u64; VERTEX_LIMIT];
@@ -161,6 +208,7 @@ pub fn answer(
         &mut starts,
         &mut targets,
         &mut counts,
+        &mut lengths,
         &mut starts2,
         &mut targets2,
         &mut counts2,

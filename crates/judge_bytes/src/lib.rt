@@ -59,12 +59,13 @@ fn answer_with(
     starts: &mut [u32; START_LIMIT],
     targets: &mut [u32; EDGE_LIMIT],
     counts: &mut [u64; VERTEX_LIMIT],
+    lengths: &mut [u16; VERTEX_LIMIT],
     out: &mut [u8; LONGEST],
 ) -> Answer
     ensures { λ r. ⌜ JudgeAnswer (now (image .entry)) s t (now (out .entry)) (now (out .exit)) r ⌝ }
     ensures { λ r. ⌜ Counts (r .length) (now (out .exit)) ⌝ }
 {
-    let sizes = taking::take_in(image, starts, targets, counts);
+    let sizes = taking::take_in(image, starts, targets, counts, lengths);
     if sizes.number != 0 {
         return printing::refusal(out, sizes.number);
     }
@@ -83,5 +84,15 @@ pub fn answer(image: &[u8], s: u32, t: u32, out: &mut [u8; LONGEST]) -> Answer
     let mut starts = [0u32; START_LIMIT];
     let mut targets = [0u32; EDGE_LIMIT];
     let mut counts = [0u64; VERTEX_LIMIT];
-    answer_with(image, s, t, &mut starts, &mut targets, &mut counts, out)
+    let mut lengths = [0u16; VERTEX_LIMIT];
+    answer_with(
+        image,
+        s,
+        t,
+        &mut starts,
+        &mut targets,
+        &mut counts,
+        &mut lengths,
+        out,
+    )
 }

@@ -74,13 +74,14 @@ fn answer_with(
     starts: &mut [u32; START_LIMIT],
     targets: &mut [u32; EDGE_LIMIT],
     counts: &mut [u64; VERTEX_LIMIT],
+    lengths: &mut [u16; VERTEX_LIMIT],
     pairs: &mut [u32; 2 * VERTEX_LIMIT],
     out: &mut [u8; LONGEST],
 ) -> Answer
     ensures { λ r. ⌜ ListAnswer (now (image .entry)) (now (out .entry)) (now (out .exit)) r ⌝ }
     ensures { λ r. ⌜ Counts (r .length) (now (out .exit)) ⌝ }
 {
-    let sizes = taking::take_in(image, starts, targets, counts);
+    let sizes = taking::take_in(image, starts, targets, counts, lengths);
     if sizes.number != 0 {
         return printing::refusal(out, sizes.number);
     }
@@ -102,12 +103,14 @@ pub fn answer(image: &[u8], out: &mut [u8; LONGEST]) -> Answer
     let mut starts = [0u32; START_LIMIT];
     let mut targets = [0u32; EDGE_LIMIT];
     let mut counts = [0u64; VERTEX_LIMIT];
+    let mut lengths = [0u16; VERTEX_LIMIT];
     let mut pairs = [0u32; 2 * VERTEX_LIMIT];
     answer_with(
         image,
         &mut starts,
         &mut targets,
         &mut counts,
+        &mut lengths,
         &mut pairs,
         out,
     )

@@ -3,10 +3,10 @@ ghost use Rattle.io.specs.Counts.{Counts};
 ghost use Rattle.look_bytes.specs.Look.{LookAnswer};
 use printing::Answer;
 
-// The length of the longest line: `refused` and a number of 32 bits. `table` with the largest n and m has 16 bytes.
-pub const LONGEST: usize = 19;
+// The length of the longest line: `table` with the largest n and m, and `lengths`. `refused` and a number of 32 bits have 19 bytes.
+pub const LONGEST: usize = 24;
 
-// Puts the line that look prints of an image at the front of the buffer: `table N M`, or `refused N`.
+// Puts the line that look prints of an image at the front of the buffer: `table N M`, in version 2 `table N M lengths`, or `refused N`.
 pub fn answer(image: &[u8], out: &mut [u8; LONGEST]) -> Answer
     ensures { λ r. ⌜ LookAnswer (now (image .entry)) (now (out .entry)) (now (out .exit)) r ⌝ }
     ensures { λ r. ⌜ Counts (r .length) (now (out .exit)) ⌝ }
@@ -17,6 +17,6 @@ pub fn answer(image: &[u8], out: &mut [u8; LONGEST]) -> Answer
     }
     Answer {
         number: 0,
-        length: printing::sizes(out, sizes.vertices, sizes.edges),
+        length: printing::sizes(out, sizes.version, sizes.vertices, sizes.edges),
     }
 }

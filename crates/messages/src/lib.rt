@@ -84,9 +84,10 @@ pub fn say_refusal(number: u32) {
         8 => say(b"there is not enough room for the result\n"),
         9 => say(b"the table has a directed cycle, and a self-loop is one\n"),
         10 => say(b"the image is shorter than 13 bytes, or does not begin with S B T\n"),
-        11 => say(b"the image has another version than 1\n"),
+        11 => say(b"the image has another version than 1 and 2\n"),
         12 => say(b"the image is longer or shorter than its header says\n"),
         13 => say(b"the table does not have a vertex that was asked for\n"),
+        20 => say(b"a length is 0\n"),
         _ => say(b"there are no words for this number\n"),
     }
 }

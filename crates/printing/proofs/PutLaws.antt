@@ -7,8 +7,8 @@ use native.Mathlib.Numerals.{add-one}
 use lib.ListN.{length, getD, take, drop, set, length-set, length-append, take-append-drop}
 use lib.Seq.{take-all, take-suc, take-suc-set, drop-set-lt, drop-drop, length-take-le, take-at, drop-at}
 use Rattle.io.specs.Counts.{Counts}
-use Rattle.texts.specs.Text.{Line, begun, line, text}
-use Rattle.texts.proofs.LineLaws.{begun-first, begun-next, text-next}
+use Rattle.texts.specs.Text.{Line, following, begun, line, text}
+use Rattle.texts.proofs.LineLaws.{begun-first, begun-append, text-next}
 use Rattle.printing.specs.Put.{AtFront, Put}
 
 -- no byte
@@ -67,10 +67,15 @@ put-all word k e put = rw e at (put-same (take-all k word (omega (arith, e))) pu
 pub put-first : {a b word : List ℕ} {i j : ℕ} → Put a i word b j → Put a i (begun (record { first = word; others = [] })) b j
 put-first {word = word} = put-same (sym (begun-first word))
 
--- the next word of a line
+-- the next words of a line
+pub put-words : (l : Line) (words : List (List ℕ)) {a b c : List ℕ} {i j k : ℕ} → Put a i (begun l) b j → Put b j (following words) c k
+    → Put a i (begun (record { first = l .first; others = l .others ++ words })) c k
+put-words l words p q = put-same (sym (begun-append (l .first) (l .others) words)) (put-then p q)
+
+-- the next word
 pub put-next : (l : Line) (word : List ℕ) {a b c : List ℕ} {i j k : ℕ} → Put a i (begun l) b j → Put b j (32 ∷ word) c k
     → Put a i (begun (record { first = l .first; others = l .others ++ word ∷ [] })) c k
-put-next l word p q = put-same (sym (begun-next (l .first) (l .others) word)) (put-then p q)
+put-next l word p q = put-words l (word ∷ []) p (put-same (sym (append-nil (32 ∷ word))) q)
 
 -- the next line of a text
 pub put-text : (lines : List Line) (l : Line) {a b c : List ℕ} {i j k : ℕ} → Put a i (text lines) b j → Put b j (line l) c k → Put a i (text (lines ++ l ∷ [])) c k

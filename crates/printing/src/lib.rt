@@ -3,8 +3,9 @@ ghost use Prim.Native.Nat.{_+_, _≤_};
 ghost use mathlib.Core.Path.{_≡_};
 ghost use mathlib.Core.List.{[], _∷_};
 ghost use lib.ListN.{length};
-ghost use Rattle.texts.specs.Text.{decimal, line, text, sizesLine, refusalLines};
+ghost use Rattle.texts.specs.Text.{decimal, following, line, text, lengthsWord, sizesLine, refusalLines};
 ghost use Rattle.printing.specs.Put.{AtFront, Put};
+use layout::Header;
 
 // What a program answers: the number of a refusal, or 0, and how many bytes of text stand at the front of the buffer.
 pub struct Answer {
@@ -53,14 +54,26 @@ pub fn end_line(out: &mut [u8], at: usize) -> usize
     at + 1
 }
 
-// Puts the line of n and m, `table N M`, at the front.
-pub fn sizes(out: &mut [u8], n: usize, m: usize) -> usize
-    requires { ⌜ length (line (sizesLine n m)) ≤ length (now out) ⌝ }
-    ensures { λ r. ⌜ Put (now (out .entry)) 0 (line (sizesLine n m)) (now (out .exit)) r ⌝ }
+// Puts the word that version 2 has behind n and m.
+fn lengths_word(out: &mut [u8], at: usize, version: u32) -> usize
+    requires { ⌜ at + length (following (lengthsWord version)) ≤ length (now out) ⌝ }
+    ensures { λ r. ⌜ Put (now (out .entry)) at (following (lengthsWord version)) (now (out .exit)) r ⌝ }
+{
+    if version == Header::VERSION_2 {
+        return word(out, at, b" lengths");
+    }
+    at
+}
+
+// Puts the line of n and m, `table N M`, in version 2 `table N M lengths`, at the front.
+pub fn sizes(out: &mut [u8], version: u32, n: usize, m: usize) -> usize
+    requires { ⌜ length (line (sizesLine version n m)) ≤ length (now out) ⌝ }
+    ensures { λ r. ⌜ Put (now (out .entry)) 0 (line (sizesLine version n m)) (now (out .exit)) r ⌝ }
 {
     let mut place = word(out, 0, b"table");
     place = next_number(out, place, n as u64);
     place = next_number(out, place, m as u64);
+    place = lengths_word(out, place, version);
     end_line(out, place)
 }
 

@@ -2,18 +2,40 @@
 use Prim.Native.Nat.{ℕ, _+_, _*_, _/_, _%_, _<_}
 use Prim.Native.String.{String}
 use mathlib.Core.Path.{_≡_, refl, sym, ap, _∙_}
+use mathlib.Core.Logic.{_↔_, inl, inr}
 use mathlib.Core.Bool.{Bool, true, false, false≢true}
-use mathlib.Core.List.{List, [], _∷_, map, head-eq-of-cons-eq, tail-eq-of-cons-eq, nil≢cons, cons≢nil}
+use mathlib.Core.List.{List, [], _∷_, _++_, map, head-eq-of-cons-eq, tail-eq-of-cons-eq, nil≢cons, cons≢nil}
 use native.Mathlib.Decide.{ℕ-discrete}
 use native.Mathlib.Omega.{arith}
 use lib.ListN.{length, getD}
 use lib.Seq.{ext-getD}
-use Rattle.table.specs.Table.{Table, SoundTable, size, row}
+use Rattle.table.specs.Table.{size, row}
 use Rattle.table.proofs.SameRows.{same-by-row}
-use Rattle.texts.specs.Text.{decimal, Line, named, numbered, each, text, refusalLines, lookLines, vertexLine, tableLines, pairLine, listLines, judgementLines, foldLines}
+use Rattle.layout.specs.Lengths.{Known, lengthCount}
+use Rattle.layout.specs.Image.{Contents, SoundContents}
+use Rattle.layout.proofs.LengthLaws.{lengths-each, lengths-none}
+use Rattle.texts.specs.Text.{
+  decimal,
+  Line,
+  named,
+  numbered,
+  each,
+  text,
+  refusalLines,
+  sizesLine,
+  lookLines,
+  lengthAt,
+  vertexLine,
+  contentsLines,
+  pairLine,
+  listLines,
+  judgementLines,
+  foldLines,
+}
 use Rattle.texts.proofs.EachLaws.{each-determines}
 use Rattle.texts.proofs.Decimal.{decimal-injective}
-use Rattle.texts.proofs.Plain.{plainRefusal, plainLook, plainTable, plainList, plainJudgement, plainFold}
+use Rattle.texts.proofs.VersionLaws.{word-tells, length-parts}
+use Rattle.texts.proofs.Plain.{plainRefusal, plainLook, plainContents, plainList, plainJudgement, plainFold}
 use Rattle.texts.proofs.Splitting.{text-determines}
 use Rattle.texts.proofs.FirstWord.{texts-differ}
 
@@ -45,36 +67,81 @@ refusal-determines r r′ same =
     let lines = text-determines (plainRefusal r) (plainRefusal r′) same in
     head-eq-of-cons-eq (headed-determines "refused" (r ∷ []) (r′ ∷ []) [] [] lines .0)
 
-pub look-determines : (n m n′ m′ : ℕ) → text (lookLines n m) ≡ text (lookLines n′ m′) → (n ≡ n′) × (m ≡ m′)
-look-determines n m n′ m′ same =
-    let lines = text-determines (plainLook n m) (plainLook n′ m′) same in
-    let numbers = headed-determines "table" (n ∷ m ∷ []) (n′ ∷ m′ ∷ []) [] [] lines .0 in
-    (head-eq-of-cons-eq numbers, head-eq-of-cons-eq (tail-eq-of-cons-eq numbers))
+-- the first line of a look or of contents says whether the version is 2, and n and m
+sizes-determines : (version version′ n n′ m m′ : ℕ) → sizesLine version n m ≡ sizesLine version′ n′ m′
+    → ((version ≡ 2) ↔ (version′ ≡ 2)) × (n ≡ n′) × (m ≡ m′)
+sizes-determines version version′ n n′ m m′ same =
+    let words = ap (λ (l : Line). l .others) same in
+    let behind = tail-eq-of-cons-eq words in
+    let last = tail-eq-of-cons-eq behind in (
+      (word-tells version version′ last, word-tells version′ version (sym last)),
+      decimal-injective n n′ (head-eq-of-cons-eq words),
+      decimal-injective m m′ (head-eq-of-cons-eq behind),
+    )
 
--- the line of a vertex determines its count and its row
-vertex-determines : (table table′ : Table) (v : ℕ) → vertexLine table v ≡ vertexLine table′ v
-    → (getD (table .counts) v 0 ≡ getD (table′ .counts) v 0)
-    × (row (table .rows .starts) (table .rows .targets) v ≡ row (table′ .rows .starts) (table′ .rows .targets) v)
-vertex-determines table table′ v same =
-    let numbers = numbered-determines v v (getD (table .counts) v 0 ∷ row (table .rows .starts) (table .rows .targets) v)
-    (getD (table′ .counts) v 0 ∷ row (table′ .rows .starts) (table′ .rows .targets) v) same .1 in
-    (head-eq-of-cons-eq numbers, tail-eq-of-cons-eq numbers)
+pub look-determines : (version version′ n n′ m m′ : ℕ) → text (lookLines version n m) ≡ text (lookLines version′ n′ m′)
+    → ((version ≡ 2) ↔ (version′ ≡ 2)) × (n ≡ n′) × (m ≡ m′)
+look-determines version version′ n n′ m m′ same =
+    sizes-determines version version′ n n′ m m′ (head-eq-of-cons-eq (text-determines (plainLook version n m) (plainLook version′ n′ m′) same))
 
-pub table-determines : (table table′ : Table) → SoundTable table → SoundTable table′ → text (tableLines table) ≡ text (tableLines table′) → table ≡ table′
-table-determines table table′ ok ok′ same =
-    let n = size (table .rows) in
-    let n′ = size (table′ .rows) in
-    let lines = text-determines (plainTable table) (plainTable table′) same in
-    let (heads, rest) =
-    headed-determines "table" (n ∷ length (table .rows .targets) ∷ []) (n′ ∷ length (table′ .rows .targets) ∷ [])
-    (each (vertexLine table) n) (each (vertexLine table′) n′) lines in
-    let as-many : n ≡ n′ = head-eq-of-cons-eq heads in
-    let vertex = each-determines (vertexLine table) (vertexLine table′) n (rest ∙ ap (each (vertexLine table′)) (sym as-many)) in
-    let rows = same-by-row (ok .well-formed) (ok′ .well-formed) (omega (arith, ok .well-formed .some, ok′ .well-formed .some))
-    (λ v h. vertex-determines table table′ v (vertex v h) .1) in
-    let counts = ext-getD 0 (table .counts) (table′ .counts) (omega (arith, ok .count-each, ok′ .count-each))
-    (λ v h. vertex-determines table table′ v (vertex v (omega (arith, ok .count-each))) .0) in
-    λ i. record { rows = rows i; counts = counts i }
+-- of the versions that there are, 2 or not 2 says all
+known-determined : (version version′ : ℕ) → Known version → Known version′ → (version ≡ 2) ↔ (version′ ≡ 2) → version ≡ version′
+known-determined version version′ (inl one) (inl one′) both = one ∙ sym one′
+known-determined version version′ (inl one) (inr two′) both = both .1 two′ ∙ sym two′
+known-determined version version′ (inr two) known′ both = two ∙ sym (both .0 two)
+
+-- the line of a vertex determines its count, its length where there is one, and its row
+vertex-determines : (version : ℕ) (contents contents′ : Contents) (v : ℕ) → vertexLine version contents v ≡ vertexLine version contents′ v
+    → (getD (contents .table .counts) v 0 ≡ getD (contents′ .table .counts) v 0)
+    × (version ≡ 2 → getD (contents .lengths) v 0 ≡ getD (contents′ .lengths) v 0)
+    × (row (contents .table .rows .starts) (contents .table .rows .targets) v ≡ row (contents′ .table .rows .starts) (contents′ .table .rows .targets) v)
+vertex-determines version contents contents′ v same =
+    let record { table = table; lengths = lengths } = contents in
+    let record { table = table′; lengths = lengths′ } = contents′ in
+    let successors = row (table .rows .starts) (table .rows .targets) v in
+    let successors′ = row (table′ .rows .starts) (table′ .rows .targets) v in
+    let numbers = numbered-determines v v (getD (table .counts) v 0 ∷ lengthAt version lengths v ++ successors)
+    (getD (table′ .counts) v 0 ∷ lengthAt version lengths′ v ++ successors′) same .1 in
+    let (length-same, row-same) = length-parts version lengths lengths′ successors successors′ v (tail-eq-of-cons-eq numbers) in
+    (head-eq-of-cons-eq numbers, length-same, row-same)
+
+-- within one version
+contents-of-version : (version : ℕ) (contents contents′ : Contents) → SoundContents version contents → SoundContents version contents′
+    → size (contents .table .rows) ≡ size (contents′ .table .rows)
+    → ((v : ℕ) → v < size (contents .table .rows) → vertexLine version contents v ≡ vertexLine version contents′ v) → contents ≡ contents′
+contents-of-version version contents contents′ ok ok′ as-many vertex =
+    let record { table = table; lengths = lengths } = contents in
+    let record { table = table′; lengths = lengths′ } = contents′ in
+    let each-count = ok .counted .count-each in
+    let rows = same-by-row (ok .counted .well-formed) (ok′ .counted .well-formed)
+    (omega (arith, ok .counted .well-formed .some, ok′ .counted .well-formed .some))
+    (λ v h. vertex-determines version contents contents′ v (vertex v h) .2) in
+    let counts = ext-getD 0 (table .counts) (table′ .counts) (omega (arith, each-count, ok′ .counted .count-each))
+    (λ v h. vertex-determines version contents contents′ v (vertex v (omega (arith, each-count))) .0) in
+    let long = ok .length-each ∙ ap (lengthCount version) as-many ∙ sym (ok′ .length-each) in
+    let measures = ext-getD 0 lengths lengths′ long
+    (λ v h. elim (ℕ-discrete version 2) [
+      | yes two ↦ vertex-determines version contents contents′ v (vertex v (omega (arith, ok .length-each, lengths-each version (size (table .rows)) two))) .1 two
+      | no other ↦ absurd (omega (arith, ok .length-each, lengths-none version (size (table .rows)) other))
+    ]) in
+    λ i. record { table = record { rows = rows i; counts = counts i }; lengths = measures i }
+
+-- so the text of contents determines their version and them
+pub contents-determines : (version version′ : ℕ) (contents contents′ : Contents) → SoundContents version contents → SoundContents version′ contents′
+    → text (contentsLines version contents) ≡ text (contentsLines version′ contents′) → (version ≡ version′) × (contents ≡ contents′)
+contents-determines version version′ contents contents′ ok ok′ same =
+    let rows = contents .table .rows in
+    let rows′ = contents′ .table .rows in
+    let lines = text-determines (plainContents version contents) (plainContents version′ contents′) same in
+    let (two, as-many, edges) =
+    sizes-determines version version′ (size rows) (size rows′) (length (rows .targets)) (length (rows′ .targets)) (head-eq-of-cons-eq lines) in
+    let one = known-determined version version′ (ok .known) (ok′ .known) two in
+    let rest : each (vertexLine version contents) (size rows) ≡ each (vertexLine version contents′) (size rows) =
+    tail-eq-of-cons-eq lines ∙ (λ i. each (vertexLine (sym one i) contents′) (sym as-many i)) in (
+      one,
+      contents-of-version version contents contents′ ok (rw (← one) at ok′) as-many
+          (each-determines (vertexLine version contents) (vertexLine version contents′) (size rows) rest),
+    )
 
 -- a line of a list determines its pair
 pair-determines : (pairs pairs′ : List ℕ) (k : ℕ) → pairLine pairs k ≡ pairLine pairs′ k

@@ -2,14 +2,32 @@
 use Prim.Native.Nat.{ℕ, _+_, _*_}
 use mathlib.Core.Bool.{Bool, true, false}
 use mathlib.Core.Logic.{_≢_}
-use mathlib.Core.List.{List, [], _∷_, map}
+use mathlib.Core.List.{List, [], _∷_, _++_, map}
+use native.Mathlib.Decide.{ℕ-discrete}
 use native.Mathlib.Omega.{arith}
 use lib.ListN.{length, getD}
-use Rattle.table.specs.Table.{Table, size, row}
-use Rattle.texts.specs.Text.{decimal, Line, numbered, refusalLines, lookLines, vertexLine, tableLines, pairLine, listLines, judgementLines, foldLines}
+use Rattle.table.specs.Table.{size, row}
+use Rattle.layout.specs.Image.{Contents}
+use Rattle.texts.specs.Text.{
+  decimal,
+  Line,
+  numbered,
+  refusalLines,
+  lengthsWord,
+  sizesLine,
+  lookLines,
+  lengthAt,
+  vertexLine,
+  contentsLines,
+  pairLine,
+  listLines,
+  judgementLines,
+  foldLines,
+}
 use Rattle.texts.proofs.All.{All, all-made, all-so}
 use Rattle.texts.proofs.EachLaws.{each-all}
 use Rattle.texts.proofs.Decimal.{decimal-digits}
+use Rattle.texts.proofs.VersionLaws.{word-said, word-left-out}
 
 -- neither a blank nor a line feed
 abbrev pub PlainByte : ℕ → Type 0
@@ -37,16 +55,28 @@ numbered-plain first numbers = (decimal-plain first, decimals-plain numbers)
 pub refusal-plain : (number : ℕ) → All PlainLine (refusalLines number)
 refusal-plain number = ((omega arith, decimals-plain (number ∷ [])), tt)
 
-pub look-plain : (n m : ℕ) → All PlainLine (lookLines n m)
-look-plain n m = ((omega arith, decimals-plain (n ∷ m ∷ [])), tt)
+word-plain : (version : ℕ) → All Plain (lengthsWord version)
+word-plain version =
+    elim (ℕ-discrete version 2) [
+      | yes two ↦ rw (word-said version two) (omega arith)
+      | no other ↦ rw (word-left-out version other) tt
+    ]
 
-vertex-plain : (table : Table) (v : ℕ) → PlainLine (vertexLine table v)
-vertex-plain table v = numbered-plain v (getD (table .counts) v 0 ∷ row (table .rows .starts) (table .rows .targets) v)
+sizes-plain : (version n m : ℕ) → PlainLine (sizesLine version n m)
+sizes-plain version n m = (omega arith, (decimal-plain n, (decimal-plain m, word-plain version)))
 
-pub table-plain : (table : Table) → All PlainLine (tableLines table)
-table-plain table =
-    let n = size (table .rows) in
-    ((omega arith, decimals-plain (n ∷ length (table .rows .targets) ∷ [])), each-all (vertexLine table) PlainLine (vertex-plain table) n)
+pub look-plain : (version n m : ℕ) → All PlainLine (lookLines version n m)
+look-plain version n m = (sizes-plain version n m, tt)
+
+vertex-plain : (version : ℕ) (contents : Contents) (v : ℕ) → PlainLine (vertexLine version contents v)
+vertex-plain version contents v =
+    let table = contents .table in
+    numbered-plain v (getD (table .counts) v 0 ∷ lengthAt version (contents .lengths) v ++ row (table .rows .starts) (table .rows .targets) v)
+
+pub contents-plain : (version : ℕ) (contents : Contents) → All PlainLine (contentsLines version contents)
+contents-plain version contents =
+    let rows = contents .table .rows in
+    (sizes-plain version (size rows) (length (rows .targets)), each-all (vertexLine version contents) PlainLine (vertex-plain version contents) (size rows))
 
 pair-plain : (pairs : List ℕ) (k : ℕ) → PlainLine (pairLine pairs k)
 pair-plain pairs k = numbered-plain (getD pairs (2 * k) 0) (getD pairs (2 * k + 1) 0 ∷ [])
@@ -70,11 +100,11 @@ pub record PlainLines : Type 0 where
 abbrev pub plainRefusal : ℕ → PlainLines
 plainRefusal number = record { lines = refusalLines number; plain = refusal-plain number }
 
-abbrev pub plainLook : ℕ → ℕ → PlainLines
-plainLook n m = record { lines = lookLines n m; plain = look-plain n m }
+abbrev pub plainLook : ℕ → ℕ → ℕ → PlainLines
+plainLook version n m = record { lines = lookLines version n m; plain = look-plain version n m }
 
-abbrev pub plainTable : Table → PlainLines
-plainTable table = record { lines = tableLines table; plain = table-plain table }
+abbrev pub plainContents : ℕ → Contents → PlainLines
+plainContents version contents = record { lines = contentsLines version contents; plain = contents-plain version contents }
 
 abbrev pub plainList : List ℕ → ℕ → PlainLines
 plainList pairs found = record { lines = listLines pairs found; plain = list-plain pairs found }

@@ -4,11 +4,14 @@ use Prim.Native.Char.{code}
 use Prim.Native.String.{String}
 use Prim.Native.String.{[] as no-letter, _∷_ as letter}
 use mathlib.Core.Bool.{Bool, true, false}
+use mathlib.Core.Logic.{ite}
 use mathlib.Core.List.{List, [], _∷_, _++_, map}
+use native.Mathlib.Decide.{ℕ-discrete}
 use lib.ListN.{length, getD}
 use lib.Dec.{ltb}
 use Rattle.io.specs.Digits.{digits}
-use Rattle.table.specs.Table.{Table, size, row}
+use Rattle.table.specs.Table.{size, row}
+use Rattle.layout.specs.Image.{Contents}
 
 -- ---- Words and lines.
 
@@ -69,21 +72,33 @@ each l (suc k) = each l k ++ l k ∷ []
 abbrev pub refusalLines : ℕ → List Line
 refusalLines number = named "refused" (number ∷ []) ∷ []
 
--- the line of n and m: `table N M`
-abbrev pub sizesLine : ℕ → ℕ → Line
-sizesLine n m = named "table" (n ∷ m ∷ [])
+-- the word that version 2 has behind n and m
+abbrev pub lengthsWord : ℕ → List (List ℕ)
+lengthsWord version = ite (ℕ-discrete version 2) (bytes "lengths" ∷ []) []
+
+-- the line of n and m: `table N M`, in version 2 `table N M lengths`
+abbrev pub sizesLine : ℕ → ℕ → ℕ → Line
+sizesLine version n m = record { first = bytes "table"; others = decimal n ∷ decimal m ∷ lengthsWord version }
 
 -- a look: that line alone
-abbrev pub lookLines : ℕ → ℕ → List Line
-lookLines n m = sizesLine n m ∷ []
+abbrev pub lookLines : ℕ → ℕ → ℕ → List Line
+lookLines version n m = sizesLine version n m ∷ []
 
--- the line of vertex v: its number, its count, its successors
-abbrev pub vertexLine : Table → ℕ → Line
-vertexLine table v = numbered v (getD (table .counts) v 0 ∷ row (table .rows .starts) (table .rows .targets) v)
+-- the length of vertex v, which version 2 has
+abbrev pub lengthAt : ℕ → List ℕ → ℕ → List ℕ
+lengthAt version lengths v = ite (ℕ-discrete version 2) (getD lengths v 0 ∷ []) []
 
--- a table: the line of its n and m, and a line for each vertex
-abbrev pub tableLines : Table → List Line
-tableLines table = sizesLine (size (table .rows)) (length (table .rows .targets)) ∷ each (vertexLine table) (size (table .rows))
+-- the line of vertex v: its number, its count, in version 2 its length, its successors
+abbrev pub vertexLine : ℕ → Contents → ℕ → Line
+vertexLine version contents v =
+    let table = contents .table in
+    numbered v (getD (table .counts) v 0 ∷ lengthAt version (contents .lengths) v ++ row (table .rows .starts) (table .rows .targets) v)
+
+-- the contents of an image: the line of their n and m, and a line for each vertex
+abbrev pub contentsLines : ℕ → Contents → List Line
+contentsLines version contents =
+    let rows = contents .table .rows in
+    sizesLine version (size rows) (length (rows .targets)) ∷ each (vertexLine version contents) (size rows)
 
 -- line k of a list: entrance and exit
 abbrev pub pairLine : List ℕ → ℕ → Line

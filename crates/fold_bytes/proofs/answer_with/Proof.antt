@@ -1,9 +1,12 @@
 -- `fold_bytes::answer_with` meets its contract: the table of an accepted image stands at the fronts of the arrays. Assumes nothing.
 use mathlib.Core.Path.{sym}
 use lib.Seq.{length-take-le}
-use Rattle.table.specs.Table.{Table}
-use Rattle.taking.proofs.TakenLaws.{TakenTable, taken-table}
+use native.Mathlib.Omega.{arith}
+use Rattle.layout.specs.Lengths.{lengthCount}
+use Rattle.layout.specs.Image.{Contents}
+use Rattle.taking.proofs.TakenLaws.{TakenTable, TakenLengths, taken-same, taken-sound, taken-table, taken-lengths}
 use Rattle.printing.proofs.PutLaws.{front-counts}
+use Rattle.fold_bytes.specs.Image.{fold-of}
 use Rattle.fold_bytes.proofs.FoldLaws.{image-refused, image-folded}
 use borrow.Author.Needs.{needs}
 use Rattle.fold_bytes.proofs.answer_with.Statement.{statement}
@@ -13,28 +16,40 @@ use Rattle.fold_bytes.proofs.answer_with.Tie as tie
 abbrev after-take-in : tie.After-refused → tie.After-take-in
 after-take-in c = c .before .before .before .before
 
-abbrev in-else1 : tie.After-fold-table-arg → tie.Else1
-in-else1 c = c .before .before .before .before .before .before .before
+abbrev in-else1 : tie.After-fold-contents-arg → tie.Else1
+in-else1 c = c .before .before .before .before .before .before .before .before .before .before
 
-abbrev first-argument : tie.After-fold-table-arg8 → tie.After-fold-table-arg
-first-argument c = c .before .before .before .before .before .before .before
+abbrev first-argument : tie.After-fold-contents-arg9 → tie.After-fold-contents-arg
+first-argument c = c .before .before .before .before .before .before .before .before
+
+abbrev after-lengths : tie.After-fold-contents-arg → tie.After-lengths
+after-lengths c = c .before .before .before .before .before .before .before .before .before
 
 abbrev entry : tie.After-take-in → tie.Start
-entry c = c .before .before .before .before .before
+entry c = c .before .before .before .before .before .before
 
 -- the arrays that the image was taken into
-abbrev filled : tie.After-take-in → Table
+abbrev filled : tie.After-take-in → Contents
 filled c =
     record {
-      rows = record { starts = c .take-in .last .1 .0; targets = c .take-in .last .1 .1 .0 };
-      counts = c .take-in .last .1 .1 .1 .0;
+      table =
+          record {
+            rows = record { starts = c .take-in .last .1 .0; targets = c .take-in .last .1 .1 .0 };
+            counts = c .take-in .last .1 .1 .1 .0;
+          };
+      lengths = c .take-in .last .1 .1 .1 .1 .0;
     }
 
--- its table stands at their fronts
+-- its table and its lengths stand at their fronts
 taken : (c : tie.Else1)
     → let done = c .before .before in
-    TakenTable (entry done .args .image .now) (filled done) (done .take-in .result .vertices) (done .take-in .result .edges)
+    TakenTable (entry done .args .image .now) (filled done .table) (done .take-in .result .vertices) (done .take-in .result .edges)
 taken c = taken-table (c .before .before .take-in .ensures .0) (c .if1 .left)
+
+within : (c : tie.Else1)
+    → let done = c .before .before in
+    TakenLengths (entry done .args .image .now) (filled done .lengths) (lengthCount (done .take-in .result .version) (done .take-in .result .vertices))
+within c = taken-lengths (c .before .before .take-in .ensures .0) (c .if1 .left)
 
 take-in-requires : tie.Need-take-in-requires
 take-in-requires c κs = search needs
@@ -44,28 +59,42 @@ refused-requires c κs = search needs
 
 returns : tie.Need-returns
 returns c =
-    let done = image-refused (after-take-in c .take-in .ensures .0 .looked) (c .before .before .if1 .taken) (c .refused .ensures) in
+    let done = image-refused fold-of (after-take-in c .take-in .ensures .0 .looked) (c .before .before .if1 .taken) (c .refused .ensures) in
     (done, (front-counts (done .line-front), front-counts (done .image-front)))
 
-add-fold-table : tie.Need-add-fold-table
-add-fold-table c = search needs
+lengths-requires : tie.Need-lengths-requires
+lengths-requires c κs = search needs
 
-slice-aggregate-fold-table : tie.Need-slice-aggregate-fold-table
-slice-aggregate-fold-table c = sym (length-take-le _ _ (taken (in-else1 c) .starts-within))
+add-fold-contents : tie.Need-add-fold-contents
+add-fold-contents c = search needs
 
-slice-aggregate-fold-table-2 : tie.Need-slice-aggregate-fold-table-2
-slice-aggregate-fold-table-2 c = sym (length-take-le _ _ (taken (in-else1 (c .before)) .targets-within))
+slice-aggregate-fold-contents : tie.Need-slice-aggregate-fold-contents
+slice-aggregate-fold-contents c = sym (length-take-le _ _ (taken (in-else1 c) .starts-within))
 
-slice-aggregate-fold-table-3 : tie.Need-slice-aggregate-fold-table-3
-slice-aggregate-fold-table-3 c = sym (length-take-le _ _ (taken (in-else1 (c .before .before)) .counts-within))
+slice-aggregate-fold-contents-2 : tie.Need-slice-aggregate-fold-contents-2
+slice-aggregate-fold-contents-2 c = sym (length-take-le _ _ (taken (in-else1 (c .before)) .targets-within))
 
-fold-table-requires : tie.Need-fold-table-requires
-fold-table-requires c κs = taken (in-else1 (first-argument c)) .fronts-sound
+slice-aggregate-fold-contents-3 : tie.Need-slice-aggregate-fold-contents-3
+slice-aggregate-fold-contents-3 c = sym (length-take-le _ _ (taken (in-else1 (c .before .before)) .counts-within))
+
+slice-aggregate-fold-contents-4 : tie.Need-slice-aggregate-fold-contents-4
+slice-aggregate-fold-contents-4 c = let first = c .before .before .before in
+    sym (length-take-le _ _ (omega (arith, within (in-else1 first) .lengths-within, after-lengths first .lengths .ensures)))
+
+fold-contents-requires : tie.Need-fold-contents-requires
+fold-contents-requires c κs =
+    let first = first-argument c in
+    let start = in-else1 first in
+    let bytes = start .before .before .before .before .before .before .before .shared-slice-known .given in
+    taken-sound (start .before .before .take-in .ensures .0) (start .if1 .left) (after-lengths first .lengths .ensures) (λ k h. omega (arith, bytes k))
 
 returns-2 : tie.Need-returns-2
 returns-2 c =
-    let start = in-else1 (first-argument (c .before)) in
-    let done = image-folded (start .before .before .take-in .ensures .0 .looked) (start .if1 .left) (taken start .fronts-same) (c .fold-table .ensures) in
+    let first = first-argument (c .before) in
+    let start = in-else1 first in
+    let took = start .before .before .take-in .ensures .0 in
+    let done = image-folded fold-of _ (took .looked) (start .if1 .left) (took .looked .taken (start .if1 .left) .same-version) (taken-same took (start .if1 .left) (after-lengths first .lengths .ensures))
+    (c .fold-contents .ensures) in
     (done, (front-counts (done .line-front), front-counts (done .image-front)))
 
 pub answer-with-spec : {M : Type 1} → statement M
@@ -75,9 +104,11 @@ answer-with-spec =
     take-in-requires
     refused-requires
     returns
-    add-fold-table
-    slice-aggregate-fold-table
-    slice-aggregate-fold-table-2
-    slice-aggregate-fold-table-3
-    fold-table-requires
+    lengths-requires
+    add-fold-contents
+    slice-aggregate-fold-contents
+    slice-aggregate-fold-contents-2
+    slice-aggregate-fold-contents-3
+    slice-aggregate-fold-contents-4
+    fold-contents-requires
     returns-2)

@@ -17,7 +17,7 @@ abbrev in-else1 : tie.After-judge-table-arg → tie.Else1
 in-else1 c = c .before .before .before .before .before
 
 abbrev entry : tie.After-take-in → tie.Start
-entry c = c .before .before .before .before .before
+entry c = c .before .before .before .before .before .before
 
 -- the arrays that the image was taken into
 abbrev filled : tie.After-take-in → Table

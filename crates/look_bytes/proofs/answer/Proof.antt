@@ -1,10 +1,10 @@
--- `look_bytes::answer` meets its contract: the line of the n and m that look answers, or of its refusal. Assumes nothing.
-use Prim.Native.Nat.{ℕ}
-use mathlib.Core.Path.{refl, ap₂}
+-- `look_bytes::answer` meets its contract: the line of the version, n and m that look answers, or of its refusal. Assumes nothing.
+use mathlib.Core.Path.{_≡_, refl}
 use mathlib.Core.List.{[]}
 use native.Mathlib.Omega.{arith}
 use borrow.Author.Needs.{needs}
 use Rattle.table.proofs.VerdictLaws.{accepts}
+use Rattle.layout.specs.Image.{versionOf, verticesOf, edgesOf}
 use Rattle.image.specs.Contracts.{imageDemands}
 use Rattle.image.proofs.LookLaws.{looked-met, looked-says}
 use Rattle.texts.specs.Text.{text, sizesLine, lookLines}
@@ -35,8 +35,9 @@ returns c =
 
 sizes-requires : tie.Need-sizes-requires
 sizes-requires c κs =
-    let says = looked-says (after-look (c .before) .look .ensures) (c .before .if1 .left) in
-    omega (arith, sizes-line-most _ _ (says .sized .few-vertices) (says .sized .few-edges))
+    let look = after-look (c .before) .look in
+    let says = looked-says (look .ensures) (c .before .if1 .left) in
+    omega (arith, sizes-line-most (look .result .version) _ _ (says .sized .few-vertices) (says .sized .few-edges))
 
 returns-2 : tie.Need-returns-2
 returns-2 c =
@@ -44,8 +45,9 @@ returns-2 c =
     let look = after-look taken .look in
     let image = entry (after-look taken) .args .image .now in
     let says = looked-says (look .ensures) (taken .if1 .left) in
-    let at = at-front (put-text [] (sizesLine (look .result .vertices) (look .result .edges)) put-nothing (c .sizes .ensures)) in
-    let spelled = ap₂ (λ (n m : ℕ). text (lookLines n m)) (says .vertices) (says .edges) in
+    let at = at-front (put-text [] (sizesLine (look .result .version) (look .result .vertices) (look .result .edges)) put-nothing (c .sizes .ensures)) in
+    let spelled : text (lookLines (look .result .version) (look .result .vertices) (look .result .edges)) ≡ text (lookLines (versionOf image) (verticesOf image) (edgesOf image))
+    = λ i. text (lookLines (says .version i) (says .vertices i) (says .edges i)) in
     (text-answers refl (accepts (imageDemands image) (looked-met (look .ensures) (taken .if1 .left))) spelled at, front-counts at)
 
 pub answer-spec : {M : Type 1} → statement M
