@@ -12,7 +12,8 @@ use Rattle.table.specs.Verdict.{Verdict, Says}
 use Rattle.table.specs.Table.{In, Rises, countSum, Rows, Table, edges}
 use Rattle.table.specs.Numbers.{tableDemands, countedDemands}
 use Rattle.table.proofs.VerdictLaws.{says-unique, verdict-unique}
-use Rattle.in_place.specs.InPlace.{tableIn, placedDemands}
+use Rattle.layout.specs.Image.{Contents}
+use Rattle.in_place.specs.InPlace.{contentsIn, placedDemands}
 use Rattle.image.specs.declared.header.Sizes.{Sizes}
 use Rattle.image.specs.Contracts.{Looked, Loaded}
 use Rattle.image.proofs.Determined.{look-determined, load-determined}
@@ -48,8 +49,10 @@ use Rattle.turns.specs.Turns.{TurnDone}
 use Rattle.turns.proofs.Determined.{turn-determined}
 use Rattle.staying.specs.Staying.{TableWritten}
 use Rattle.staying.proofs.Determined.{write-table-determined}
+use Rattle.rule.specs.declared.Choosing.{Choosing}
 use Rattle.rule.specs.Fold.{Candidate, kept-shares}
 use Rattle.rule.specs.Way.{the-fold}
+use Rattle.rule.proofs.Candidates.{candidate-laws}
 use Rattle.rule.proofs.TheFold.{the-fold-lawful}
 use Rattle.folding.specs.declared.folds.Folded.{Folded}
 use Rattle.folding.specs.Folding.{FoldDone}
@@ -65,11 +68,12 @@ use Rattle.show_bytes.specs.Show.{ShowAnswer}
 use Rattle.list_bytes.specs.Lines.{ListAnswer}
 use Rattle.judge_bytes.specs.Line.{JudgeAnswer}
 use Rattle.fold_bytes.specs.declared.Answers.{Answers}
-use Rattle.fold_bytes.specs.Image.{FoldAnswer}
+use Rattle.fold_bytes.specs.Image.{fold-of, FoldAnswer}
 use Rattle.promises.proofs.AnyRun.{answers-determined}
+use Rattle.promises.proofs.Demand3.{fold-of-lawful}
 
--- Where the contract is an equation: `table::row`, `table::stated_limits`, `layout::Header::length`, `largest` and `put`, all that `layout` reads and puts of bytes,
--- and `parents::copy`.
+-- Where the contract is an equation: `table::row`, `table::stated_limits`, `layout::Header::length`, `lengths`, `largest` and `put`, all that `layout` reads and puts of
+-- bytes, and `parents::copy`.
 pub equation-coincides : {A : Type 0} {stated result₁ result₂ : A} → result₁ ≡ stated → result₂ ≡ stated → result₁ ≡ result₂
 equation-coincides a b = a ∙ sym b
 
@@ -94,21 +98,22 @@ pub holds-coincides : (list : List ℕ) (v : ℕ) (r₁ r₂ : Bool) → Says r�
 holds-coincides list v = says-unique (In v list)
 
 -- `in_place::check`
-pub check-in-place-coincides : (image : List ℕ) (n m r₁ r₂ : ℕ) → Verdict (placedDemands (tableIn image n m)) r₁ → Verdict (placedDemands (tableIn image n m)) r₂ → r₁ ≡ r₂
-check-in-place-coincides image n m = verdict-unique (placedDemands (tableIn image n m))
+pub check-in-place-coincides : (image : List ℕ) (version n m r₁ r₂ : ℕ) → Verdict (placedDemands (contentsIn image version n m)) r₁
+    → Verdict (placedDemands (contentsIn image version n m)) r₂ → r₁ ≡ r₂
+check-in-place-coincides image version n m = verdict-unique (placedDemands (contentsIn image version n m))
 
 -- `image::look`
 pub look-coincides : {image : List ℕ} {answer₁ answer₂ : Sizes} → Looked image answer₁ → Looked image answer₂ → answer₁ ≡ answer₂
 look-coincides = look-determined
 
 -- `image::load`
-pub load-coincides : {image : List ℕ} {lent after₁ after₂ : Table} {answer₁ answer₂ : Sizes} → Loaded image lent after₁ answer₁ → Loaded image lent after₂ answer₂
+pub load-coincides : {image : List ℕ} {lent after₁ after₂ : Contents} {answer₁ answer₂ : Sizes} → Loaded image lent after₁ answer₁ → Loaded image lent after₂ answer₂
     → (answer₁ ≡ answer₂) × (after₁ ≡ after₂)
 load-coincides = load-determined
 
--- `writing::write`
-pub write-coincides : {table : Table} {image image₁ image₂ : List ℕ} {answer₁ answer₂ : Extent} → Written table image image₁ answer₁ → Written table image image₂ answer₂
-    → (answer₁ ≡ answer₂) × (image₁ ≡ image₂)
+-- `image::write` and `write_lengths`, and `writing::write_version` below them
+pub write-coincides : {version : ℕ} {contents : Contents} {image image₁ image₂ : List ℕ} {answer₁ answer₂ : Extent} → Written version contents image image₁ answer₁
+    → Written version contents image image₂ answer₂ → (answer₁ ≡ answer₂) × (image₁ ≡ image₂)
 write-coincides = write-determined
 
 -- `vertices::put`
@@ -176,32 +181,32 @@ judge-coincides = judge-determined
 pub find-coincides : {rows : Rows} {parents₁ pending₁ order₁ exits₁ parents₂ pending₂ order₂ exits₂ : List ℕ} {found₁ found₂ : ℕ}
     → FindDone Candidate rows parents₁ pending₁ order₁ exits₁ found₁ → FindDone Candidate rows parents₂ pending₂ order₂ exits₂ found₂
     → (parents₁ ≡ parents₂) × (pending₁ ≡ pending₂) × (exits₁ ≡ exits₂) × (found₁ ≡ found₂)
-find-coincides = found-determined (the-fold-lawful .candidates-lawful)
+find-coincides = found-determined candidate-laws
 
 -- `sharing::share`
 pub share-coincides : {counts next out out₁ out₂ : List ℕ} {s k d : ℕ} → Shared counts next out s k d k out₁ → Shared counts next out s k d k out₂ → out₁ ≡ out₂
 share-coincides = shared-determined
 
 -- `kept::keep`, whatever stood in the best sums: all but these
-pub keep-coincides : {table : Table} {best best′ next out best₁ next₁ out₁ best₂ next₂ out₂ : List ℕ} {s t : ℕ}
-    → KeptDone Candidate kept-shares table s t best next out best₁ next₁ out₁ → KeptDone Candidate kept-shares table s t best′ next out best₂ next₂ out₂
+pub keep-coincides : (by : Choosing) {table : Table} {best best′ next out best₁ next₁ out₁ best₂ next₂ out₂ : List ℕ} {s t : ℕ}
+    → KeptDone Candidate (kept-shares by) table s t best next out best₁ next₁ out₁ → KeptDone Candidate (kept-shares by) table s t best′ next out best₂ next₂ out₂
     → (next₁ ≡ next₂) × (out₁ ≡ out₂)
-keep-coincides = kept-coincide (the-fold-lawful .candidates-lawful) (the-fold-lawful .rule-lawful)
+keep-coincides by = kept-coincide (the-fold-lawful by .candidates-lawful) (the-fold-lawful by .rule-lawful)
 
 -- `turns::turn`: all but the number of a dropped vertex, of which it is stated that it says so
-pub turn-coincides : {table : Table} {budget : ℕ} {next₁ out₁ next₂ out₂ : List ℕ} {answer₁ answer₂ : Turned} → TurnDone the-fold table budget next₁ out₁ answer₁
-    → TurnDone the-fold table budget next₂ out₂ answer₂ → (answer₁ ≡ answer₂) × (out₁ ≡ out₂)
-turn-coincides = turn-determined the-fold-lawful
+pub turn-coincides : (by : Choosing) {table : Table} {budget : ℕ} {next₁ out₁ next₂ out₂ : List ℕ} {answer₁ answer₂ : Turned}
+    → TurnDone (the-fold by) table budget next₁ out₁ answer₁ → TurnDone (the-fold by) table budget next₂ out₂ answer₂ → (answer₁ ≡ answer₂) × (out₁ ≡ out₂)
+turn-coincides by = turn-determined (the-fold-lawful by)
 
 -- `staying::write_table`
 pub write-table-coincides : {rows lent after₁ after₂ : Rows} {next : List ℕ} {r₁ r₂ : ℕ} → TableWritten rows next lent after₁ r₁ → TableWritten rows next lent after₂ r₂
     → (after₁ ≡ after₂) × (r₁ ≡ r₂)
 write-table-coincides = write-table-determined
 
--- `folding::fold`
-pub fold-coincides : {table lent after₁ after₂ : Table} {budget : ℕ} {answer₁ answer₂ : Folded} → FoldDone the-fold table budget lent after₁ answer₁
-    → FoldDone the-fold table budget lent after₂ answer₂ → (answer₁ ≡ answer₂) × (after₁ ≡ after₂)
-fold-coincides = fold-determined the-fold-lawful
+-- `folding::fold` and `fold_weakest`, and `fold_by` below them
+pub fold-coincides : (by : Choosing) {table lent after₁ after₂ : Table} {budget : ℕ} {answer₁ answer₂ : Folded}
+    → FoldDone (the-fold by) table budget lent after₁ answer₁ → FoldDone (the-fold by) table budget lent after₂ answer₂ → (answer₁ ≡ answer₂) × (after₁ ≡ after₂)
+fold-coincides by = fold-determined (the-fold-lawful by)
 
 -- `printing::word`, `number`, `next_number` and `end_line`
 pub bytes-put-coincide : {before bytes after₁ after₂ : List ℕ} {at end₁ end₂ : ℕ} → Put before at bytes after₁ end₁ → Put before at bytes after₂ end₂
@@ -219,7 +224,7 @@ refusal-coincides (number₁, at₁) (number₂, at₂) =
     (λ i. record { number = numbers i; length = ends i }, outs)
 
 -- `taking::take_in`
-pub take-in-coincides : {image : List ℕ} {lent after₁ after₂ : Table} {answer₁ answer₂ : Sizes} → TakenIn image lent after₁ answer₁ → TakenIn image lent after₂ answer₂
+pub take-in-coincides : {image : List ℕ} {lent after₁ after₂ : Contents} {answer₁ answer₂ : Sizes} → TakenIn image lent after₁ answer₁ → TakenIn image lent after₂ answer₂
     → (answer₁ ≡ answer₂) × (after₁ ≡ after₂)
 take-in-coincides = taken-in-determined
 
@@ -251,6 +256,6 @@ judge-answers-coincide image =
 
 -- `fold_bytes::answer`
 pub fold-answers-coincide : (image : List ℕ) {out out₁ out₂ new new₁ new₂ : List ℕ} {budget : ℕ} {answers₁ answers₂ : Answers}
-    → FoldAnswer the-fold image budget out out₁ new new₁ answers₁ → FoldAnswer the-fold image budget out out₂ new new₂ answers₂
+    → FoldAnswer fold-of image budget out out₁ new new₁ answers₁ → FoldAnswer fold-of image budget out out₂ new new₂ answers₂
     → (answers₁ ≡ answers₂) × (out₁ ≡ out₂) × (new₁ ≡ new₂)
-fold-answers-coincide = answers-determined the-fold-lawful
+fold-answers-coincide = answers-determined fold-of-lawful

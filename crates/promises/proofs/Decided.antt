@@ -1,7 +1,7 @@
 -- Each demand behind a number is decided on any content, so that every table, image and room is given a number. Assumes nothing.
-use Prim.Native.Nat.{ℕ, zero, suc, _+_, _-_, _<_}
+use Prim.Native.Nat.{ℕ, zero, suc, _+_, _-_, _≤_, _<_}
 use mathlib.Core.Path.{_≡_, refl, ap, ap₂}
-use mathlib.Core.Logic.{inl, inr}
+use mathlib.Core.Logic.{_⊎_, inl, inr, ⊎-elim}
 use mathlib.Core.List.{List, [], _∷_, _++_}
 use native.Mathlib.Omega.{arith}
 use native.Mathlib.Decide.{ℕ-discrete, decLe, decLt, map-dec}
@@ -9,10 +9,12 @@ use lib.ListN.{length, getD, take, drop}
 use Rattle.table.specs.Verdict.{Demand, Verdict, AllMet}
 use Rattle.table.specs.Limits.{vertex-limit, start-limit, edge-limit, read-limit}
 use Rattle.table.specs.Table.{vertices, row, Rises, Below, StartsFit, RowsRise, countSum, Rows, Table, size, edges, Sound}
-use Rattle.table.specs.Numbers.{tableDemands, countDemands, roomFor}
+use Rattle.table.specs.Numbers.{sumFits, tableDemands, countDemands, roomFor}
 use Rattle.table.proofs.RowLaws.{edges-below}
-use Rattle.layout.specs.Image.{mark, imageLength, versionOf, verticesOf, edgesOf, tableOf}
-use Rattle.image.specs.Contracts.{headerDemands, bodyDemands, imageDemands}
+use Rattle.layout.specs.Lengths.{lengthCount, Positive, noZero}
+use Rattle.layout.specs.Image.{mark, Contents, imageLength, versionOf, verticesOf, edgesOf, lengthsOf, tableOf}
+use Rattle.image.specs.Contracts.{headerDemands, bodyDemands, imageDemands, contentsRoom}
+use Rattle.writing.specs.Writing.{oneEach, contentsDemands}
 use Rattle.bubble.proofs.Reflect.{decided, decides-test}
 use Rattle.bubble.proofs.Closure.{decides-closure}
 use Rattle.bubble.proofs.Walks.{walk-first}
@@ -44,6 +46,11 @@ pub both : {P Q : Type 0} → Dec P → Dec Q → Dec (P × Q)
 both (yes p) (yes q) = yes (p, q)
 both (yes p) (no n) = no (λ h. n (h .1))
 both (no n) d = no (λ h. n (h .0))
+
+either : {P Q : Type 0} → Dec P → Dec Q → Dec (P ⊎ Q)
+either (yes p) d = yes (inl p)
+either (no n) (yes q) = yes (inr q)
+either (no n) (no m) = no (⊎-elim n m)
 
 not-decided : {P : Type 0} → Dec P → Dec (P → ⊥)
 not-decided (yes p) = no (λ n. n p)
@@ -110,28 +117,52 @@ table-decided rows = (
   ),
 )
 
+-- 7 and 20,
+sum-decided : (counts : List ℕ) → Dec (countSum counts ≤ read-limit)
+sum-decided counts = decLe (countSum counts) read-limit
+
+positive-decided : (lengths : List ℕ) → Dec (Positive lengths)
+positive-decided lengths = every-below (λ k. decLt 0 (getD lengths k 0)) (length lengths)
+
 -- 6 and 7,
 pub counts-decided : (table : Table) → DecidedInTurn (countDemands table)
-counts-decided table = (ℕ-discrete (length (table .counts)) (size (table .rows)), λ _. (decLe (countSum (table .counts)) read-limit, λ _. tt))
+counts-decided table = (ℕ-discrete (length (table .counts)) (size (table .rows)), λ _. (sum-decided (table .counts), λ _. tt))
 
 -- 10, 11, 1, 2, 12,
 header-decided : (image : List ℕ) → DecidedInTurn (headerDemands image)
 header-decided image = (
   both (decLe 13 (length image)) (same-decided (take 3 image) mark),
   λ _. (
-    ℕ-discrete (versionOf image) 1,
+    either (ℕ-discrete (versionOf image) 1) (ℕ-discrete (versionOf image) 2),
     λ _. (
       decLe (verticesOf image) vertex-limit,
-      λ _. (decLe (edgesOf image) edge-limit, λ _. (ℕ-discrete (length image) (imageLength (verticesOf image) (edgesOf image)), λ _. tt)),
+      λ _. (decLe (edgesOf image) edge-limit, λ _. (ℕ-discrete (length image) (imageLength (versionOf image) (verticesOf image) (edgesOf image)), λ _. tt)),
     ),
   ),
 )
 
--- 3, 4, 5, 7 of the table in an image,
+-- 3, 4, 5, 7, 20 of the contents of an image,
 body-decided : (image : List ℕ) → DecidedInTurn (bodyDemands image)
 body-decided image =
-    let rows = tableOf image .rows in
-    (fit-decided rows, λ _. (targets-decided rows, λ _. (rows-decided (rows .starts) (rows .targets), λ _. (decLe (countSum (tableOf image .counts)) read-limit, λ _. tt))))
+    let rows = tableOf image .rows in (
+      fit-decided rows,
+      λ _. (
+        targets-decided rows,
+        λ _. (
+          rows-decided (rows .starts) (rows .targets),
+          λ _. (sum-decided (tableOf image .counts), λ _. (positive-decided (lengthsOf image), λ _. tt)),
+        ),
+      ),
+    )
+
+-- 1 to 7 and 20 of contents that are to be written,
+pub contents-decided : (version : ℕ) (contents : Contents) → DecidedInTurn (contentsDemands version contents)
+contents-decided version contents =
+    let table = contents .table in
+    decided-then (tableDemands (table .rows)) (oneEach version contents ∷ sumFits table ∷ noZero (contents .lengths) ∷ []) (table-decided (table .rows)) (λ _. (
+      both (ℕ-discrete (length (table .counts)) (size (table .rows))) (ℕ-discrete (length (contents .lengths)) (lengthCount version (size (table .rows)))),
+      λ _. (sum-decided (table .counts), λ _. (positive-decided (contents .lengths), λ _. tt)),
+    ))
 
 -- and so all that is asked of an image,
 pub image-decided : (image : List ℕ) → DecidedInTurn (imageDemands image)
@@ -142,6 +173,10 @@ pub room-decided : (n m : ℕ) (lent : Table) → Dec (roomFor n m lent .met)
 room-decided n m lent =
     map-dec (λ h. (h .0, h .1 .0, h .1 .1)) (λ h. (h .0, (h .1, h .2)))
     (both (decLe (n + 1) (length (lent .rows .starts))) (both (decLe m (length (lent .rows .targets))) (decLe n (length (lent .counts)))))
+
+-- and of those that contents are loaded into,
+pub contents-room-decided : (version n m : ℕ) (lent : Contents) → Dec (contentsRoom version n m lent .met)
+contents-room-decided version n m lent = both (room-decided n m (lent .table)) (decLe (lengthCount version n) (length (lent .lengths)))
 
 -- and 9
 pub acyclic-decided : (rows : Rows) → Sound rows → Dec (Cyclic (edges rows) → ⊥)

@@ -8,26 +8,29 @@ use native.Mathlib.Decide.{decLe, decLt}
 use lib.ListN.{length}
 use Rattle.table.specs.Verdict.{Demand, Verdict}
 use Rattle.table.specs.Table.{Below, Rows, Table, size, edges, Sound, SoundTable}
-use Rattle.table.specs.Numbers.{tableDemands, countDemands, countedDemands, roomFor}
+use Rattle.table.specs.Numbers.{tableDemands, countDemands, countedDemands}
 use Rattle.table.proofs.VerdictLaws.{goes-on, stops, verdict-unique}
 use Rattle.table.proofs.Accepted.{well-formed, counted, met-counted, counted-meets}
-use Rattle.layout.specs.Image.{imageLength, verticesOf, edgesOf}
+use Rattle.layout.specs.Lengths.{Known}
+use Rattle.layout.specs.Image.{Contents, SoundContents, imageLength, versionOf, verticesOf, edgesOf}
 use Rattle.image.specs.declared.header.Sizes.{Sizes}
-use Rattle.image.specs.Contracts.{imageDemands, Looked, Loaded}
+use Rattle.image.specs.Contracts.{imageDemands, contentsRoom, NoSizes, Looked, Loaded}
 use Rattle.image.proofs.LookLaws.{looked-met}
 use Rattle.image.proofs.LoadLaws.{loaded-met}
 use Rattle.writing.specs.declared.Extent.{Extent}
-use Rattle.writing.specs.Writing.{imageRoom, Written}
+use Rattle.writing.specs.Writing.{contentsDemands, imageRoom, Written}
+use Rattle.writing.proofs.WriteLaws.{written-sound}
 use Rattle.bubble.specs.Cycle.{Cyclic}
 use Rattle.listing.specs.declared.Found.{Found}
 use Rattle.listing.specs.Listing.{listRoom, ListDone}
 use Rattle.judging.specs.declared.Judgement.{Judgement}
 use Rattle.judging.specs.Judging.{pairInside, JudgeDone}
 use Rattle.rule.specs.Way.{noCycle, the-fold}
+use Rattle.rule.specs.declared.Choosing.{Choosing}
 use Rattle.folding.specs.declared.folds.Folded.{Folded}
 use Rattle.folding.specs.Folding.{foldRoom, foldDemands, FoldDone}
 use Rattle.promises.specs.Images.{GoodImage}
-use Rattle.promises.proofs.Decided.{DecidedInTurn, gives-number, decided-then, both, table-decided, counts-decided, image-decided, room-decided, acyclic-decided}
+use Rattle.promises.proofs.Decided.{DecidedInTurn, gives-number, decided-then, both, table-decided, counts-decided, contents-decided, image-decided, room-decided, contents-room-decided, acyclic-decided}
 use Rattle.promises.proofs.GoodImages.{met-good}
 
 -- A table of any content gets an answer: the check has a number for it, without counts and with them,
@@ -53,33 +56,36 @@ judge-answers rows s t =
     (decided-then (tableDemands rows) (pairInside rows s t ∷ []) (table-decided rows) (λ _. (both (decLt s (size rows)) (decLt t (size rows)), λ _. tt)))
 
 -- fold,
-pub fold-answers : (table lent : Table) → (number : ℕ) × Verdict (foldDemands the-fold table lent) number
-fold-answers table lent =
-    gives-number (foldDemands the-fold table lent)
+pub fold-answers : (by : Choosing) (table lent : Table) → (number : ℕ) × Verdict (foldDemands (the-fold by) table lent) number
+fold-answers by table lent =
+    gives-number (foldDemands (the-fold by) table lent)
     (decided-then (countedDemands table) (foldRoom table lent ∷ noCycle (table .rows) ∷ []) (counted-decided table)
     (λ met. (
       room-decided (size (table .rows)) (length (table .rows .targets)) lent,
       λ _. (acyclic-decided (table .rows) (met-counted table met .well-formed), λ _. tt),
     )))
 
--- and the writing of an image.
-pub write-answers : (table : Table) (image : List ℕ) → (number : ℕ) × Verdict (countedDemands table ++ imageRoom (table .rows) image ∷ []) number
-write-answers table image =
-    gives-number (countedDemands table ++ imageRoom (table .rows) image ∷ [])
-    (decided-then (countedDemands table) (imageRoom (table .rows) image ∷ []) (counted-decided table)
-    (λ _. (decLe (imageLength (size (table .rows)) (length (table .rows .targets))) (length image), λ _. tt)))
+-- and the writing of an image, of either version.
+pub write-answers : (version : ℕ) (contents : Contents) (image : List ℕ)
+    → (number : ℕ) × Verdict (contentsDemands version contents ++ imageRoom version (contents .table .rows) image ∷ []) number
+write-answers version contents image =
+    let room = imageRoom version (contents .table .rows) image in
+    gives-number (contentsDemands version contents ++ room ∷ [])
+    (decided-then (contentsDemands version contents) (room ∷ []) (contents-decided version contents)
+    (λ _. (decLe (imageLength version (size (contents .table .rows)) (length (contents .table .rows .targets))) (length image), λ _. tt)))
 
 -- An image of any content gets an answer: from look,
 pub look-answers : (image : List ℕ) → (number : ℕ) × Verdict (imageDemands image) number
 look-answers image = gives-number (imageDemands image) (image-decided image)
 
 -- and from load.
-pub load-answers : (image : List ℕ) (lent : Table)
-    → (number : ℕ) × Verdict (imageDemands image ++ roomFor (verticesOf image) (edgesOf image) lent ∷ []) number
+pub load-answers : (image : List ℕ) (lent : Contents)
+    → (number : ℕ) × Verdict (imageDemands image ++ contentsRoom (versionOf image) (verticesOf image) (edgesOf image) lent ∷ []) number
 load-answers image lent =
-    let room = roomFor (verticesOf image) (edgesOf image) lent in
+    let room = contentsRoom (versionOf image) (verticesOf image) (edgesOf image) lent in
     gives-number (imageDemands image ++ room ∷ [])
-    (decided-then (imageDemands image) (room ∷ []) (image-decided image) (λ _. (room-decided (verticesOf image) (edgesOf image) lent, λ _. tt)))
+    (decided-then (imageDemands image) (room ∷ []) (image-decided image)
+    (λ _. (contents-room-decided (versionOf image) (verticesOf image) (edgesOf image) lent, λ _. tt)))
 
 -- Bad ones are refused by number: a table that is not well-formed, without its counts and with them, by the checks
 pub bad-table-refused : (rows : Rows) (number : ℕ) → (Sound rows → ⊥) → Verdict (tableDemands rows) number → number ≡ 0 → ⊥
@@ -104,33 +110,32 @@ judge-refuses-bad {rows} {s} {t} {answer} bad done =
     still-refused (tableDemands rows) (pairInside rows s t ∷ []) (answer .number) (λ r. bad-table-refused rows r bad) (check-answers rows) (done .verdict)
 
 -- fold,
-pub fold-refuses-bad : {table lent after : Table} {budget : ℕ} {answer : Folded} → (SoundTable table → ⊥) → FoldDone the-fold table budget lent after answer
+pub fold-refuses-bad : (by : Choosing) {table lent after : Table} {budget : ℕ} {answer : Folded} → (SoundTable table → ⊥) → FoldDone (the-fold by) table budget lent after answer
     → answer .number ≡ 0 → ⊥
-fold-refuses-bad {table} {lent} {answer = answer} bad done =
+fold-refuses-bad by {table} {lent} {answer = answer} bad done =
     still-refused (countedDemands table) (foldRoom table lent ∷ noCycle (table .rows) ∷ []) (answer .number)
     (λ r. bad-counts-refused table r bad) (check-counted-answers table) (done .verdict)
 
 -- which refuses a table with a directed cycle, too: by 9, where there is room,
-pub fold-refuses-cycle : {table lent after : Table} {budget : ℕ} {answer : Folded} → SoundTable table
+pub fold-refuses-cycle : (by : Choosing) {table lent after : Table} {budget : ℕ} {answer : Folded} → SoundTable table
     → foldRoom table lent .met → Cyclic (edges (table .rows))
-    → FoldDone the-fold table budget lent after answer → answer .number ≡ 9
-fold-refuses-cycle {table} {lent} {answer = answer} ok room cycle done =
-    verdict-unique (foldDemands the-fold table lent) (answer .number) 9 (done .verdict)
+    → FoldDone (the-fold by) table budget lent after answer → answer .number ≡ 9
+fold-refuses-cycle by {table} {lent} {answer = answer} ok room cycle done =
+    verdict-unique (foldDemands (the-fold by) table lent) (answer .number) 9 (done .verdict)
     (goes-on (countedDemands table) (foldRoom table lent ∷ noCycle (table .rows) ∷ []) 9 (counted-meets table ok)
     (inr (room, inl ((λ none. none cycle), refl))))
 
--- and the writing of an image;
-pub write-refuses-bad : {table : Table} {image image′ : List ℕ} {answer : Extent} → (SoundTable table → ⊥) → Written table image image′ answer → answer .number ≡ 0 → ⊥
-write-refuses-bad {table} {image} {image′} {answer} bad done =
-    still-refused (countedDemands table) (imageRoom (table .rows) image ∷ []) (answer .number) (λ r. bad-counts-refused table r bad) (check-counted-answers table)
-    (done .verdict)
+-- and the writing of an image: contents that no image of its version can hold;
+pub write-refuses-bad : {version : ℕ} {contents : Contents} {image image′ : List ℕ} {answer : Extent} → Known version → Below 65536 (contents .lengths)
+    → (SoundContents version contents → ⊥) → Written version contents image image′ answer → answer .number ≡ 0 → ⊥
+write-refuses-bad known sixteen bad done e = bad (written-sound done e known sixteen)
 
 -- and bytes that are the image of no well-formed table, by look
 pub look-refuses-bad : {image : List ℕ} {answer : Sizes} → Below 256 image → (GoodImage image → ⊥) → Looked image answer → answer .number ≡ 0 → ⊥
 look-refuses-bad bytes bad looks e = bad (met-good bytes (looked-met looks e))
 
 -- and by load.
-pub load-refuses-bad : {image : List ℕ} {lent after : Table} {answer : Sizes} → Below 256 image → (GoodImage image → ⊥) → Loaded image lent after answer
+pub load-refuses-bad : {image : List ℕ} {lent after : Contents} {answer : Sizes} → Below 256 image → (GoodImage image → ⊥) → Loaded image lent after answer
     → answer .number ≡ 0 → ⊥
 load-refuses-bad bytes bad loads e = bad (met-good bytes (loaded-met loads e))
 
@@ -143,20 +148,20 @@ pub judge-refusal : {rows : Rows} {s t : ℕ} {answer : Judgement} → JudgeDone
 judge-refusal done = done .refused
 
 -- fold,
-pub fold-refusal : {table lent after : Table} {budget : ℕ} {answer : Folded} → FoldDone the-fold table budget lent after answer → (answer .number ≡ 0 → ⊥)
+pub fold-refusal : (by : Choosing) {table lent after : Table} {budget : ℕ} {answer : Folded} → FoldDone (the-fold by) table budget lent after answer → (answer .number ≡ 0 → ⊥)
     → (after ≡ lent) × ((answer .folded ≡ 0) × (answer .left ≡ 0) × (answer .edges ≡ 0))
-fold-refusal done refusal = let (folded, left, edges, same) = done .refused refusal in (same, (folded, left, edges))
+fold-refusal by done refusal = let (folded, left, edges, same) = done .refused refusal in (same, (folded, left, edges))
 
 -- look, which is lent nothing that it could change,
-pub look-refusal : {image : List ℕ} {answer : Sizes} → Looked image answer → (answer .number ≡ 0 → ⊥) → (answer .vertices ≡ 0) × (answer .edges ≡ 0)
+pub look-refusal : {image : List ℕ} {answer : Sizes} → Looked image answer → (answer .number ≡ 0 → ⊥) → NoSizes answer
 look-refusal done = done .refused
 
 -- load,
-pub load-refusal : {image : List ℕ} {lent after : Table} {answer : Sizes} → Loaded image lent after answer → (answer .number ≡ 0 → ⊥)
-    → (after ≡ lent) × ((answer .vertices ≡ 0) × (answer .edges ≡ 0))
-load-refusal done refusal = let (n, m, same) = done .refused refusal in (same, (n, m))
+pub load-refusal : {image : List ℕ} {lent after : Contents} {answer : Sizes} → Loaded image lent after answer → (answer .number ≡ 0 → ⊥)
+    → (after ≡ lent) × NoSizes answer
+load-refusal done refusal = let (sizes, same) = done .refused refusal in (same, sizes)
 
 -- and write.
-pub write-refusal : {table : Table} {image image′ : List ℕ} {answer : Extent} → Written table image image′ answer → (answer .number ≡ 0 → ⊥)
-    → (image′ ≡ image) × (answer .length ≡ 0)
+pub write-refusal : {version : ℕ} {contents : Contents} {image image′ : List ℕ} {answer : Extent} → Written version contents image image′ answer
+    → (answer .number ≡ 0 → ⊥) → (image′ ≡ image) × (answer .length ≡ 0)
 write-refusal done refusal = let (size, same) = done .refused refusal in (same, size)

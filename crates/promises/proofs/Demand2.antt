@@ -25,9 +25,10 @@ use Rattle.judging.specs.Judging.{pairInside, Judged, JudgeDone}
 use Rattle.rule.specs.Fold.{NoCycle, Candidate, Item, kept-shares}
 use Rattle.rule.specs.Tables.{TableFolded}
 use Rattle.rule.specs.Way.{the-fold}
+use Rattle.rule.specs.declared.Choosing.{Choosing}
 use Rattle.rule.proofs.Ends.{budget-zero}
 use Rattle.rule.proofs.SameTable.{same-tables}
-use Rattle.rule.proofs.TheFold.{the-fold-lawful}
+use Rattle.rule.proofs.TheFold.{acyclic-folds, the-fold-lawful}
 use Rattle.promises.specs.Lines.{lines}
 use Rattle.promises.specs.Calls.{Foldable, FoldCall}
 use Rattle.promises.proofs.AnyWay.{call-accepted, call-by-rule, call-edges, call-rest}
@@ -87,29 +88,30 @@ judged {rows} {s} {t} {answer} ok entrance exit done =
 
 -- a table without a directed cycle is of the kind that is folded
 pub foldable-kind : {table : Table} → Foldable table → NoCycle (edges (table .rows))
-foldable-kind {table} ok = the-fold-lawful .asked-kind (table .rows) (ok .acyclic, tt)
+foldable-kind ok = acyclic-folds (ok .acyclic)
 
-module _ {table table′ : Table} {budget : ℕ} (ok : Foldable table) (call : FoldCall the-fold table budget table′) where
-  -- A well-formed table without a directed cycle, with room for the result, is folded:
+module _ (by : Choosing) {table table′ : Table} {budget : ℕ} (ok : Foldable table) (call : FoldCall (the-fold by) table budget table′) where
+  -- A well-formed table without a directed cycle, with room for the result, is folded by the call of either version:
   pub fold-accepted : call .answer .number ≡ 0
-  fold-accepted = call-accepted the-fold-lawful (ok .sound) (foldable-kind ok) call
+  fold-accepted = call-accepted (the-fold-lawful by) (ok .sound) (foldable-kind ok) call
 
   -- the table and counts at the fronts of the slices are those of the rule,
-  pub fold-by-rule : TableFolded Candidate kept-shares table budget table′ (call .answer .folded) (call .answer .left)
-  fold-by-rule = call-by-rule the-fold-lawful (ok .sound) (foldable-kind ok) call
+  pub fold-by-rule : TableFolded Candidate (kept-shares by) table budget table′ (call .answer .folded) (call .answer .left)
+  fold-by-rule = call-by-rule (the-fold-lawful by) (ok .sound) (foldable-kind ok) call
 
   -- with as many edges as are returned,
   pub fold-edges : call .answer .edges ≡ length (table′ .rows .targets)
-  fold-edges = call-edges the-fold-lawful (ok .sound) (foldable-kind ok) call
+  fold-edges = call-edges (the-fold-lawful by) (ok .sound) (foldable-kind ok) call
 
   -- and what stands behind them is as it was.
   pub fold-rest : AtFronts (size (table .rows)) (call .answer .edges) table′ (call .lent) (call .after)
-  fold-rest = call-rest the-fold-lawful (ok .sound) (foldable-kind ok) call
+  fold-rest = call-rest (the-fold-lawful by) (ok .sound) (foldable-kind ok) call
 
 -- Budget 0 gives back the input.
-pub fold-by-zero : {table table′ : Table} → Foldable table → (call : FoldCall the-fold table 0 table′) → (table′ ≡ table) × (call .answer .folded ≡ 0)
-fold-by-zero ok call =
-    let folded = fold-by-rule ok call in
+pub fold-by-zero : (by : Choosing) {table table′ : Table} → Foldable table → (call : FoldCall (the-fold by) table 0 table′)
+    → (table′ ≡ table) × (call .answer .folded ≡ 0)
+fold-by-zero by ok call =
+    let folded = fold-by-rule by ok call in
     let size-stays = folded .same-size in
     let items = folded .graph-folded .applied .items in (
       same-tables (size-stays .well-formed) (ok .sound .well-formed) (size-stays .as-many-vertices) (size-stays .as-many-counts) (budget-zero (folded .graph-folded .applied)),

@@ -5,6 +5,7 @@ pub mod Demand2
 pub mod Demand3
 pub mod Shared
 pub mod SharedArm
+pub mod Versions
 pub mod Printed
 pub mod Runs
 pub mod Coincide
@@ -13,7 +14,7 @@ pub mod WrongPrograms
 pub mod LookAndLoad
 -- loading and writing are each other's inverse
 pub mod RoundTrip
-pub mod TableBack
+pub mod ContentsBack
 pub mod ImageBack
 pub mod BackAndForth
 -- what the demands stand on: each demand of a contract is decided, what is asked of an image, the twelve graphs, and a fold and a run in any way

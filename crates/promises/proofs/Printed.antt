@@ -10,7 +10,7 @@ use lib.ListN.{length, take, drop}
 use Rattle.table.specs.Verdict.{Demand, Verdict}
 use Rattle.table.specs.Table.{Below, Table, size, edges}
 use Rattle.table.proofs.VerdictLaws.{verdict-unique}
-use Rattle.layout.specs.Image.{imageOf, verticesOf, edgesOf, tableOf}
+use Rattle.layout.specs.Image.{Contents, imageOf, versionOf, verticesOf, edgesOf, lengthsOf, tableOf, contentsOf}
 use Rattle.layout.proofs.ImageLaws.{starts-long, targets-long}
 use Rattle.image.specs.declared.header.Sizes.{Sizes}
 use Rattle.image.specs.Contracts.{imageDemands, Looked}
@@ -24,11 +24,9 @@ use Rattle.judging.specs.Judging.{pairInside, JudgeDone}
 use Rattle.judging.proofs.Determined.{judged-determined}
 use Rattle.rule.specs.Fold.{Candidate, kept-shares}
 use Rattle.rule.specs.Tables.{TableFolded}
-use Rattle.rule.specs.Way.{the-fold}
-use Rattle.rule.proofs.TheFold.{the-fold-lawful}
-use Rattle.texts.specs.Text.{line, text, each, refusalLines, sizesLine, lookLines, vertexLine, tableLines, listLines, judgementLines, foldLines}
-use Rattle.texts.proofs.FirstWord.{refusal-no-look, refusal-no-table, refusal-no-list, refusal-no-judgement, refusal-no-fold}
-use Rattle.texts.proofs.Determined.{refusal-determines}
+use Rattle.texts.specs.Text.{line, text, each, refusalLines, sizesLine, lookLines, vertexLine, contentsLines, listLines, judgementLines, foldLines}
+use Rattle.texts.proofs.FirstWord.{refusal-no-look, refusal-no-contents, refusal-no-list, refusal-no-judgement, refusal-no-fold}
+use Rattle.texts.proofs.Determined.{refusal-determines, contents-determines}
 use Rattle.printing.specs.declared.Answer.{Answer}
 use Rattle.printing.specs.Answered.{Answered}
 use Rattle.printing.proofs.PutLaws.{front-bytes, behind-front}
@@ -37,14 +35,15 @@ use Rattle.show_bytes.specs.Show.{ShowAnswer}
 use Rattle.list_bytes.specs.Lines.{ListAnswer}
 use Rattle.judge_bytes.specs.Line.{JudgeAnswer}
 use Rattle.fold_bytes.specs.declared.Answers.{Answers}
-use Rattle.fold_bytes.specs.Image.{FoldBytes, FoldAnswer}
+use Rattle.fold_bytes.specs.Image.{choosing-of, fold-of, FoldBytes, FoldAnswer}
 use Rattle.promises.specs.Images.{GoodImage}
 use Rattle.promises.specs.Lines.{lines}
 use Rattle.promises.specs.Calls.{FoldCall}
 use Rattle.promises.proofs.Decided.{gives-number, decided-then, both, image-decided, acyclic-decided}
-use Rattle.promises.proofs.GoodImages.{passed-sound, rest-passed, good-decides, passed-exactly}
-use Rattle.promises.proofs.AnyRun.{prints-as-called, writes-as-called}
+use Rattle.promises.proofs.GoodImages.{passed-sound, passed-contents, rest-passed, good-decides, same-bytes, passed-exactly}
+use Rattle.promises.proofs.AnyRun.{writes-version, writes-lengths, prints-as-called, writes-as-called}
 use Rattle.promises.proofs.Demand2.{listed, judged}
+use Rattle.promises.proofs.Demand3.{fold-of-lawful}
 
 -- ---- What is printed and written where nothing is refused.
 
@@ -53,32 +52,46 @@ right-text : {demands : List Demand} {Right : List ℕ → Type 0} {out out′ :
     → take (answer .length) out′ ≡ done .printed
 right-text done = front-bytes (done .at-front)
 
--- Look prints the n and m that a call of look answers,
+-- Look prints the version, n and m that a call of look answers,
 pub look-prints : (image : List ℕ) {out out′ : List ℕ} {answer : Answer} → LookAnswer image out out′ answer → answer .number ≡ 0
-    → {looked : Sizes} → Looked image looked → take (answer .length) out′ ≡ text (lookLines (looked .vertices) (looked .edges))
+    → {looked : Sizes} → Looked image looked → take (answer .length) out′ ≡ text (lookLines (looked .version) (looked .vertices) (looked .edges))
 look-prints image {answer = answer} done e {looked} sees =
     let zero : looked .number ≡ 0 = verdict-unique (imageDemands image) (looked .number) 0 (sees .verdict) (rw e at (done .verdict)) in
-    let (n-is, m-is) = sees .taken zero in
-    right-text done ∙ done .taken e ∙ (λ i. text (lookLines (sym n-is i) (sym m-is i)))
+    let is = sees .taken zero in
+    right-text done ∙ done .taken e ∙ (λ i. text (lookLines (sym (is .same-version) i) (sym (is .same-n) i) (sym (is .same-m) i)))
 
--- show the table that stands in the image,
+-- show the table that stands in the image, in version 2 with its lengths,
 pub show-prints : (image : List ℕ) {out out′ : List ℕ} {answer : Answer} → ShowAnswer image out out′ answer → answer .number ≡ 0
-    → take (answer .length) out′ ≡ text (tableLines (tableOf image))
+    → take (answer .length) out′ ≡ text (contentsLines (versionOf image) (contentsOf image))
 show-prints image done e = right-text done ∙ done .taken e
 
 -- whose first line is the one that look prints,
 pub show-begins-with-look : (image : List ℕ) {out out′ seen seen′ : List ℕ} {answer shown : Answer} → LookAnswer image out out′ answer → ShowAnswer image seen seen′ shown
     → answer .number ≡ 0 → (rest : List ℕ) × (take (shown .length) seen′ ≡ take (answer .length) out′ ++ rest)
 show-begins-with-look image {answer = answer} {shown = shown} looks shows e =
-    let table = tableOf image in
+    let rows = tableOf image .rows in
     let zero : shown .number ≡ 0 = verdict-unique (imageDemands image) (shown .number) (answer .number) (shows .verdict) (looks .verdict) ∙ e in
-    let n-is : size (table .rows) ≡ verticesOf image = omega (arith, starts-long image) in
-    let rest = text (each (vertexLine table) (size (table .rows))) in (
+    let n-is : size rows ≡ verticesOf image = omega (arith, starts-long image) in
+    let rest = text (each (vertexLine (versionOf image) (contentsOf image)) (size rows)) in (
       rest,
       show-prints image shows zero
-          ∙ (λ i. line (sizesLine (n-is i) (targets-long image i)) ++ rest)
-          ∙ ap (λ (front : List ℕ). front ++ rest) (sym (right-text looks ∙ looks .taken e ∙ append-nil (line (sizesLine (verticesOf image) (edgesOf image))))),
+          ∙ (λ i. line (sizesLine (versionOf image) (n-is i) (targets-long image i)) ++ rest)
+          ∙ ap (λ (front : List ℕ). front ++ rest)
+          (sym (right-text looks ∙ looks .taken e ∙ append-nil (line (sizesLine (versionOf image) (verticesOf image) (edgesOf image))))),
     )
+
+-- and which determines the image, lengths included: two images that are shown by the same text are the same bytes,
+pub show-determines-image : (image image′ : List ℕ) {out out₁ out′ out₂ : List ℕ} {answer answer′ : Answer} → Below 256 image → Below 256 image′
+    → ShowAnswer image out out₁ answer → answer .number ≡ 0 → ShowAnswer image′ out′ out₂ answer′ → answer′ .number ≡ 0
+    → take (answer .length) out₁ ≡ take (answer′ .length) out₂ → image ≡ image′
+show-determines-image image image′ bytes bytes′ done e done′ e′ same =
+    let passed = rw e at (done .verdict) in
+    let passed′ = rw e′ at (done′ .verdict) in
+    let (version, contents) =
+    contents-determines (versionOf image) (versionOf image′) (contentsOf image) (contentsOf image′)
+    (passed-contents image [] passed bytes) (passed-contents image′ [] passed′ bytes′)
+    (sym (show-prints image done e) ∙ same ∙ show-prints image′ done′ e′) in
+    same-bytes (passed-exactly {image = image} [] tt bytes (done .verdict) .0 e .0) (passed-exactly {image = image′} [] tt bytes′ (done′ .verdict) .0 e′ .0) version contents
 
 -- list the list that a call of list on this table leaves, wherever there is room for it: the one that demand 2 speaks of,
 pub list-prints : (image : List ℕ) {out out′ : List ℕ} {answer : Answer} → ListAnswer image out out′ answer → answer .number ≡ 0
@@ -102,25 +115,33 @@ judge-prints image {s} {t} done e call =
     let (yes-same, size-same) = judged-determined (at .judged) (judged (passed-sound image asked passed .well-formed) (inside .0) (inside .1) call .1) in
     right-text done ∙ at .spelled ∙ (λ i. text (judgementLines (yes-same i) (size-same i)))
 
-module _ (image : List ℕ) {out out′ new new′ : List ℕ} {budget : ℕ} {answers : Answers} (done : FoldAnswer the-fold image budget out out′ new new′ answers) where
-  -- and fold writes the image of the table that the rule gives, and prints how many it folded and left and how many edges that table has.
+module _ (image : List ℕ) {out out′ new new′ : List ℕ} {budget : ℕ} {answers : Answers} (done : FoldAnswer fold-of image budget out out′ new new′ answers) where
+  -- and fold writes the image of the table that the rule of its version gives, of that version and with the lengths as they were, and prints how many it folded and left
+  -- and how many edges that table has.
   pub fold-delivers : answers .number ≡ 0
       → (table′ : Table) × (folded : ℕ) × (left : ℕ)
-      × TableFolded Candidate kept-shares (tableOf image) budget table′ folded left
-      × (take (answers .image) new′ ≡ imageOf table′)
+      × TableFolded Candidate (kept-shares (choosing-of (versionOf image))) (tableOf image) budget table′ folded left
+      × (take (answers .image) new′ ≡ imageOf (versionOf image) (record { table = table′; lengths = lengthsOf image }))
       × (take (answers .line) out′ ≡ text (foldLines folded left (length (table′ .rows .targets))))
   fold-delivers e =
       let at = done .taken e in
       (at .result, at .folded, at .left, at .table-folded, front-bytes (done .image-front) ∙ at .image, front-bytes (done .line-front) ∙ at .spelled)
 
-  module _ (e : answers .number ≡ 0) {table′ : Table} (call : FoldCall the-fold (tableOf image) budget table′) where
+  module _ (e : answers .number ≡ 0) {table′ : Table} (call : FoldCall (fold-of (versionOf image)) (tableOf image) budget table′) where
     -- It prints the numbers that a call of fold returns,
     pub fold-prints : take (answers .line) out′ ≡ text (foldLines (call .answer .folded) (call .answer .left) (call .answer .edges))
-    fold-prints = prints-as-called the-fold-lawful image done e call
+    fold-prints = prints-as-called fold-of-lawful image done e call
 
     -- and writes the image of the table that this call leaves.
-    pub fold-writes : take (answers .image) new′ ≡ imageOf table′
-    fold-writes = writes-as-called the-fold-lawful image done e call
+    pub fold-writes : take (answers .image) new′ ≡ imageOf (versionOf image) (record { table = table′; lengths = lengthsOf image })
+    fold-writes = writes-as-called fold-of-lawful image done e call
+
+  -- What stands in that image has the version and the lengths of the one that was read.
+  pub fold-keeps-version : answers .number ≡ 0 → Below 256 image → versionOf (take (answers .image) new′) ≡ versionOf image
+  fold-keeps-version e bytes = writes-version fold-of-lawful image done e bytes
+
+  pub fold-keeps-lengths : answers .number ≡ 0 → Below 256 image → lengthsOf (take (answers .image) new′) ≡ lengthsOf image
+  fold-keeps-lengths e bytes = writes-lengths fold-of-lawful image done e bytes
 
   -- Where fold refuses it writes nothing.
   pub fold-writes-nothing : answers .number ≢ 0 → (answers .image ≡ 0) × (new′ ≡ new)
@@ -143,11 +164,12 @@ bytes-and-pair-get-number image s t =
     (decided-then (imageDemands image) (pairInside rows s t ∷ []) (image-decided image) (λ _. (both (decLt s (size rows)) (decLt t (size rows)), λ _. tt)))
 
 -- and from fold.
-pub bytes-to-fold-get-number : (image : List ℕ) → (number : ℕ) × Verdict (imageDemands image ++ the-fold .asked (tableOf image .rows)) number
+pub bytes-to-fold-get-number : (image : List ℕ) → (number : ℕ) × Verdict (imageDemands image ++ fold-of (versionOf image) .asked (tableOf image .rows)) number
 bytes-to-fold-get-number image =
     let rows = tableOf image .rows in
-    gives-number (imageDemands image ++ the-fold .asked rows)
-    (decided-then (imageDemands image) (the-fold .asked rows) (image-decided image) (λ met. (acyclic-decided rows (table-sound image met .well-formed), λ _. tt)))
+    let asked = fold-of (versionOf image) .asked rows in
+    gives-number (imageDemands image ++ asked)
+    (decided-then (imageDemands image) asked (image-decided image) (λ met. (acyclic-decided rows (table-sound image met .well-formed), λ _. tt)))
 
 -- where nothing is asked but a good image
 image-alone : (image : List ℕ) {number : ℕ} → Below 256 image → Verdict (imageDemands image) number → (number ≡ 0) ↔ GoodImage image
@@ -177,10 +199,10 @@ judge-answers-exactly image {s} {t} bytes done =
 
 -- and by fold if there is no directed cycle.
 pub fold-answers-exactly : (image : List ℕ) {out out′ new new′ : List ℕ} {budget : ℕ} {answers : Answers} → Below 256 image
-    → FoldAnswer the-fold image budget out out′ new new′ answers
+    → FoldAnswer fold-of image budget out out′ new new′ answers
     → (answers .number ≡ 0) ↔ (GoodImage image × (Cyclic (edges (tableOf image .rows)) → ⊥))
 fold-answers-exactly image bytes done =
-    let (there, back) = passed-exactly {image = image} (the-fold .asked (tableOf image .rows)) ((λ z. omega arith), tt) bytes (done .verdict) in
+    let (there, back) = passed-exactly {image = image} (fold-of (versionOf image) .asked (tableOf image .rows)) ((λ z. omega arith), tt) bytes (done .verdict) in
     (λ e. (there e .0, there e .1 .0), λ h. back (h .0, (h .1, tt)))
 
 -- Of a good image judge refuses any other pair with 13,
@@ -190,8 +212,8 @@ judge-refuses-outside image {s} {t} good outside done = good-decides good (pairI
 
 -- and fold one with a cycle with 9.
 pub fold-refuses-cyclic : (image : List ℕ) {out out′ new new′ : List ℕ} {budget : ℕ} {answers : Answers} → GoodImage image → Cyclic (edges (tableOf image .rows))
-    → FoldAnswer the-fold image budget out out′ new new′ answers → answers .number ≡ 9
-fold-refuses-cyclic image good cycle done = good-decides good (the-fold .asked (tableOf image .rows)) (inl ((λ none. none cycle), refl)) (done .verdict)
+    → FoldAnswer fold-of image budget out out′ new new′ answers → answers .number ≡ 9
+fold-refuses-cyclic image good cycle done = good-decides good (fold-of (versionOf image) .asked (tableOf image .rows)) (inl ((λ none. none cycle), refl)) (done .verdict)
 
 -- ---- What is printed where something is refused.
 
@@ -216,12 +238,12 @@ module _ {demands : List Demand} {Right : List ℕ → Type 0} {out out′ : Lis
   )
 
 -- the line of a fold, with some image beside it
-abbrev FoldLine : Table → ℕ → List ℕ → Type 0
-FoldLine table budget printed = (written : List ℕ) × FoldBytes the-fold table budget printed written
+abbrev FoldLine : List ℕ → ℕ → List ℕ → Type 0
+FoldLine image budget printed = (written : List ℕ) × FoldBytes (fold-of (versionOf image)) (versionOf image) (contentsOf image) budget printed written
 
-module _ (image : List ℕ) {out out′ new new′ : List ℕ} {budget : ℕ} {answers : Answers} (done : FoldAnswer the-fold image budget out out′ new new′ answers) where
+module _ (image : List ℕ) {out out′ new new′ : List ℕ} {budget : ℕ} {answers : Answers} (done : FoldAnswer fold-of image budget out out′ new new′ answers) where
   -- what fold prints is an answer like those of the others
-  line-answered : Answered (imageDemands image ++ the-fold .asked (tableOf image .rows)) (FoldLine (tableOf image) budget) out out′
+  line-answered : Answered (imageDemands image ++ fold-of (versionOf image) .asked (tableOf image .rows)) (FoldLine image budget) out out′
       (record { number = answers .number; length = answers .line })
   line-answered =
       record {
@@ -240,16 +262,16 @@ module _ (image : List ℕ) {out out′ new new′ : List ℕ} {budget : ℕ} {a
   pub fold-behind : (drop (answers .line) out′ ≡ drop (answers .line) out) × (drop (answers .image) new′ ≡ drop (answers .image) new)
   fold-behind = (behind-front (done .line-front), behind-front (done .image-front))
 
--- The line of a refusal is the text of no look, table, list, judgement or fold, and it says its number alone. So the user can tell from it which case she has: she reads
+-- The line of a refusal is the text of no look, show, list, judgement or fold, and it says its number alone. So the user can tell from it which case she has: she reads
 -- `refused N` exactly if the number is N, and not 0. From look,
 pub look-tells : (image : List ℕ) {out out′ : List ℕ} {answer : Answer} → LookAnswer image out out′ answer
     → (r : ℕ) → (take (answer .length) out′ ≡ text (refusalLines r)) ↔ ((answer .number ≡ r) × (r ≢ 0))
-look-tells image done = tells done (λ printed right r same. refusal-no-look r (verticesOf image) (edgesOf image) (same ∙ right))
+look-tells image done = tells done (λ printed right r same. refusal-no-look r (versionOf image) (verticesOf image) (edgesOf image) (same ∙ right))
 
 -- from show,
 pub show-tells : (image : List ℕ) {out out′ : List ℕ} {answer : Answer} → ShowAnswer image out out′ answer
     → (r : ℕ) → (take (answer .length) out′ ≡ text (refusalLines r)) ↔ ((answer .number ≡ r) × (r ≢ 0))
-show-tells image done = tells done (λ printed right r same. refusal-no-table r (tableOf image) (same ∙ right))
+show-tells image done = tells done (λ printed right r same. refusal-no-contents r (versionOf image) (contentsOf image) (same ∙ right))
 
 -- from list,
 pub list-tells : (image : List ℕ) {out out′ : List ℕ} {answer : Answer} → ListAnswer image out out′ answer
@@ -262,7 +284,7 @@ pub judge-tells : (image : List ℕ) {s t : ℕ} {out out′ : List ℕ} {answer
 judge-tells image done = tells done (λ printed right r same. refusal-no-judgement r (right .judgement .yes) (right .judgement .size) (same ∙ right .spelled))
 
 -- and from fold.
-pub fold-tells : (image : List ℕ) {out out′ new new′ : List ℕ} {budget : ℕ} {answers : Answers} → FoldAnswer the-fold image budget out out′ new new′ answers
+pub fold-tells : (image : List ℕ) {out out′ new new′ : List ℕ} {budget : ℕ} {answers : Answers} → FoldAnswer fold-of image budget out out′ new new′ answers
     → (r : ℕ) → (take (answers .line) out′ ≡ text (refusalLines r)) ↔ ((answers .number ≡ r) × (r ≢ 0))
 fold-tells image done =
     tells (line-answered image done)

@@ -1,57 +1,64 @@
 -- Demand 3 over files: it is safe to run fold twice. Of all that the contract of `fold_bytes` allows: take runs by one or more budgets in turn, each on the bytes that the last
--- one wrote. A run is one that refuses nothing: on a good image without a directed cycle every run is (`fold-answers-exactly`). The theorems hold for every list of budgets,
+-- one wrote, by the rule of their version. A run is one that refuses nothing: on a good image without a directed cycle every run is (`fold-answers-exactly`). The theorems hold for every list of budgets,
 -- so for those whose sum is within a single budget's range. Assumes nothing.
 use Prim.Native.Nat.{ℕ, _≤_}
 use mathlib.Core.Path.{_≡_}
 use mathlib.Core.List.{List}
 use lib.ListN.{length}
 use Rattle.table.specs.Table.{countSum, edges}
-use Rattle.layout.specs.Image.{countsOf, tableOf}
+use Rattle.layout.specs.Image.{versionOf, countsOf, lengthsOf, tableOf}
 use Rattle.bubble.specs.Cycle.{Cyclic}
 use Rattle.bubble.specs.Superbubble.{Interior, Superbubble}
 use Rattle.rule.specs.Lists.{Listing}
 use Rattle.rule.specs.Fold.{Candidate, Entrance, budgets-sum}
-use Rattle.rule.specs.Way.{the-fold}
 use Rattle.rule.proofs.TableDemand.{no-interior-left}
-use Rattle.rule.proofs.TheFold.{the-fold-lawful}
+use Rattle.rule.proofs.TheFold.{folds-acyclic}
+use Rattle.rule.proofs.BestLaws.{kept-shares-laws}
 use Rattle.fold_bytes.specs.declared.Answers.{Answers}
-use Rattle.fold_bytes.specs.Image.{FoldAnswer}
+use Rattle.fold_bytes.specs.Image.{choosing-of, fold-of, FoldAnswer}
 use Rattle.promises.specs.Images.{GoodImage}
 use Rattle.promises.specs.Calls.{Foldable}
 use Rattle.promises.specs.Runs.{FoldRun, RunsInTurn}
 use Rattle.promises.proofs.AnyRun as any
-use Rattle.promises.proofs.Demand3.{first-candidates}
+use Rattle.promises.proofs.Demand3.{fold-of-lawful, first-candidates}
 
-module _ {image image′ budgets : List ℕ} (runs : RunsInTurn the-fold image budgets image′) where
+module _ {image image′ budgets : List ℕ} (runs : RunsInTurn fold-of image budgets image′) where
   -- What they leave is a good image, of a table without a directed cycle,
   pub runs-leave-good : GoodImage image′
-  runs-leave-good = any.runs-leave the-fold-lawful runs .0
+  runs-leave-good = any.runs-leave fold-of-lawful runs .0
 
   pub runs-leave-acyclic : Cyclic (edges (tableOf image′ .rows)) → ⊥
-  runs-leave-acyclic = the-fold-lawful .kind-asked (tableOf image′ .rows) (any.runs-leave the-fold-lawful runs .1) .0
+  runs-leave-acyclic = folds-acyclic (any.runs-leave fold-of-lawful runs .1)
+
+  -- with the version and the lengths that the first one had,
+  pub runs-keep-version : versionOf image′ ≡ versionOf image
+  runs-keep-version = any.runs-keep fold-of-lawful runs .0
+
+  pub runs-keep-lengths : lengthsOf image′ ≡ lengthsOf image
+  runs-keep-lengths = any.runs-keep fold-of-lawful runs .1
 
   -- so that the next run refuses nothing, whatever its budget: one can always go on.
-  pub next-run-accepted : {out out′ new new′ : List ℕ} {budget : ℕ} {answers : Answers} → FoldAnswer the-fold image′ budget out out′ new new′ answers
+  pub next-run-accepted : {out out′ new new′ : List ℕ} {budget : ℕ} {answers : Answers} → FoldAnswer fold-of image′ budget out out′ new new′ answers
       → answers .number ≡ 0
-  next-run-accepted = let (good, kind) = any.runs-leave the-fold-lawful runs in any.good-accepted the-fold-lawful good kind
+  next-run-accepted = let (good, kind) = any.runs-leave fold-of-lawful runs in any.good-accepted fold-of-lawful good kind
 
   -- One run on the first image refuses nothing, either,
-  pub one-run-accepted : {out out′ new new′ : List ℕ} {budget : ℕ} {answers : Answers} → FoldAnswer the-fold image budget out out′ new new′ answers
+  pub one-run-accepted : {out out′ new new′ : List ℕ} {budget : ℕ} {answers : Answers} → FoldAnswer fold-of image budget out out′ new new′ answers
       → answers .number ≡ 0
-  one-run-accepted = any.first-accepted the-fold-lawful runs
+  one-run-accepted = any.first-accepted fold-of-lawful runs
 
   -- and by the sum of the budgets it ends in the same bytes.
-  pub runs-as-one : {image″ : List ℕ} → FoldRun the-fold image (budgets-sum budgets) image″ → image′ ≡ image″
-  runs-as-one = any.runs-in-turn-as-one the-fold-lawful runs
+  pub runs-as-one : {image″ : List ℕ} → FoldRun fold-of image (budgets-sum budgets) image″ → image′ ≡ image″
+  runs-as-one = any.runs-in-turn-as-one fold-of-lawful runs
 
   -- The total of the counts never moves.
   pub runs-keep-total : countSum (countsOf image′) ≡ countSum (countsOf image)
-  runs-keep-total = any.runs-total-stays the-fold-lawful runs
+  runs-keep-total = any.runs-total-stays fold-of-lawful runs
 
   first-foldable : Foldable (tableOf image)
   first-foldable =
-      let (sound, kind) = any.runs-begin the-fold-lawful runs in
-      record { sound = sound; acyclic = the-fold-lawful .kind-asked (tableOf image .rows) kind .0 }
+      let (sound, kind) = any.runs-begin fold-of-lawful runs in
+      record { sound = sound; acyclic = folds-acyclic kind }
 
   -- The outermost superbubbles with an interior in the first image's table have a number;
   pub first-image-candidates : (candidates : List ℕ) × Listing (Entrance Candidate (edges (tableOf image .rows))) candidates
@@ -63,9 +70,9 @@ module _ {image image′ budgets : List ℕ} (runs : RunsInTurn the-fold image b
     -- no superbubble with an interior is left in the table that was written,
     pub runs-leave-no-interior : (s t : ℕ) → Superbubble (edges (tableOf image′ .rows)) s t → (v : ℕ) → Interior (edges (tableOf image′ .rows)) s t v → ⊥
     runs-leave-no-interior =
-        let (sound, kind) = any.runs-begin the-fold-lawful runs in
-        no-interior-left sound kind (any.tables-of-runs the-fold-lawful runs) listed reached
+        let (sound, kind) = any.runs-begin fold-of-lawful runs in
+        no-interior-left (kept-shares-laws (choosing-of (versionOf image))) sound kind (any.tables-of-runs fold-of-lawful runs) listed reached
 
     -- and a further run gives back its bytes.
-    pub further-run : {budget : ℕ} {image″ : List ℕ} → FoldRun the-fold image′ budget image″ → image″ ≡ image′
-    further-run = any.further-run-gives-back the-fold-lawful runs listed reached
+    pub further-run : {budget : ℕ} {image″ : List ℕ} → FoldRun fold-of image′ budget image″ → image″ ≡ image′
+    further-run = any.further-run-gives-back fold-of-lawful runs listed reached

@@ -1,5 +1,5 @@
--- The worked fold of docs/RULES.md, A shared arm, of every call that the contract of fold allows: `shared-arm-fold`, at the end. What stands before it shows that the rule
--- asks for this table and no other. Assumes nothing.
+-- The worked fold of docs/RULES.md, A shared arm, of every call that the contract of a fold allows, by either version's rule: `shared-arm-fold`, at the end. What stands
+-- before it shows that the rule asks for this table and no other. Assumes nothing.
 use Prim.Native.Nat.{ℕ, zero, suc, _+_, _*_, _<_}
 use mathlib.Core.Path.{_≡_, refl, sym, ap, _∙_}
 use mathlib.Core.Logic.{_⊎_, inl, inr, ⊎-elim}
@@ -11,9 +11,11 @@ use Rattle.table.specs.Table.{Table, edges}
 use Rattle.bubble.specs.Superbubble.{F, F.start, F.on, Walk, Walk.edge, Walk.more, Superbubble, Interior}
 use Rattle.vertices.proofs.NumberLaws.{in-list}
 use Rattle.listing.specs.Graphs.{Example, RightlyListed}
-use Rattle.rule.specs.Lists.{Rising.empty, Rising.first, Listing, sum, Follows, Follows.here, Follows.later}
-use Rattle.rule.specs.Kept.{Via, Via.bare, Via.then, Arm, Beats, Earlier, Earlier.here, Earlier.later, Kept}
+use Rattle.rule.specs.Lists.{Rising.empty, Rising.first, Listing, Follows, Follows.here, Follows.later}
+use Rattle.rule.specs.Kept.{Via, Via.bare, Via.then, Arm, Beats, Earlier, Earlier.here, Earlier.later, score-by, Kept}
 use Rattle.rule.specs.Tables.{count-of, TableFolded}
+use Rattle.rule.specs.declared.Choosing.{Choosing}
+use Rattle.rule.specs.declared.Choosing.the-variants.{Sum, Weakest}
 use Rattle.rule.specs.Way.{the-fold}
 use Rattle.rule.specs.Fold.{to-each, NoCycle, Candidate, kept-shares, Entrance, Item, Stays, Applied}
 use Rattle.rule.proofs.Following.{follows-tail}
@@ -163,9 +165,12 @@ never : {l : List ℕ} → Earlier l l → ⊥
 never (here h) = omega arith
 never (later e) = never e
 
--- and the first is worth more
-kept : Kept E (count-of (shared-arm .counts)) 0 4 (1 ∷ 2 ∷ [])
-kept = record { arm = arm; unbeaten = unbeaten }
+larger-first : Earlier (3 ∷ 4 ∷ []) (1 ∷ 2 ∷ 4 ∷ []) → ⊥
+larger-first (here h) = omega arith
+
+-- and the first is worth more by the sum, 7 against 3, and as much by the weakest vertex, where its first vertex is the smaller one
+kept : (by : Choosing) → Kept by E (count-of (shared-arm .counts)) 0 4 (1 ∷ 2 ∷ [])
+kept by = record { arm = arm; unbeaten = unbeaten }
   where
     arm : Arm E 0 4 (1 ∷ 2 ∷ [])
     arm = record {
@@ -173,16 +178,18 @@ kept = record { arm = arm; unbeaten = unbeaten }
       inner = λ v m. ⊎-elim (λ q. rw q inner-one) (λ n. one n (λ q. rw q inner-two)) (List·Memᴰ·cases-cons m);
     }
 
-    unbeaten : (l : List ℕ) → Arm E 0 4 l → Beats (sum (count-of (shared-arm .counts))) 4 l (1 ∷ 2 ∷ []) → ⊥
-    unbeaten l a w = ⊎-elim (λ q. itself (rw q at w)) (λ q. weaker (rw q at w)) (paths (a .path))
+    unbeaten : (l : List ℕ) → Arm E 0 4 l → Beats (score-by by (count-of (shared-arm .counts))) 4 l (1 ∷ 2 ∷ []) → ⊥
+    unbeaten l a w = ⊎-elim (λ q. itself (rw q at w)) (λ q. weaker by (rw q at w)) (paths (a .path))
       where
-        itself : Beats (sum (count-of (shared-arm .counts))) 4 (1 ∷ 2 ∷ []) (1 ∷ 2 ∷ []) → ⊥
+        itself : Beats (score-by by (count-of (shared-arm .counts))) 4 (1 ∷ 2 ∷ []) (1 ∷ 2 ∷ []) → ⊥
         itself (inl h) = omega arith
         itself (inr h) = never (h .1)
 
-        weaker : Beats (sum (count-of (shared-arm .counts))) 4 (3 ∷ []) (1 ∷ 2 ∷ []) → ⊥
-        weaker (inl h) = omega arith
-        weaker (inr h) = let q = h .0 in omega arith
+        weaker : (by : Choosing) → Beats (score-by by (count-of (shared-arm .counts))) 4 (3 ∷ []) (1 ∷ 2 ∷ []) → ⊥
+        weaker Sum (inl h) = omega arith
+        weaker Sum (inr h) = let q = h .0 in omega arith
+        weaker Weakest (inl h) = omega arith
+        weaker Weakest (inr h) = larger-first (h .1)
 
 -- what is folded: 1 and 2 are kept, 3 is dropped
 abbrev item : Item
@@ -262,13 +269,13 @@ none-behind : (b : ℕ) → drop {A = ℕ} b [] ≡ []
 none-behind zero = refl
 none-behind (suc b) = refl
 
-applied : (b : ℕ) → Applied Candidate kept-shares E (count-of (shared-arm .counts)) (suc b) E′ (count-of (shared-arm-folded .counts))
-applied b = record {
+applied : (by : Choosing) (b : ℕ) → Applied Candidate (kept-shares by) E (count-of (shared-arm .counts)) (suc b) E′ (count-of (shared-arm-folded .counts))
+applied by b = record {
   candidates = 0 ∷ [];
   listed = candidates;
   items = item ∷ [];
   first = ap (λ l. 0 ∷ l) (sym (none-taken b));
-  fit = λ i m. one m (λ q. rw q (record { candidate = candidate; kept = kept; rest = rest }));
+  fit = λ i m. one m (λ q. rw q (record { candidate = candidate; kept = kept by; rest = rest }));
   edges = λ u v. (
     λ e. let (d, f) = to-stay u v e in (d, λ i m. one m (λ q. rw q (λ a b. f))),
     λ e. stays u v (e .0) (e .1 item (List·Memᴰ·head refl)),
@@ -285,21 +292,21 @@ walk-rises (more w e q) = let a = walk-rises w in let b = edge-rises e in omega 
 acyclic : NoCycle E
 acyclic v walk = let up = walk-rises walk in omega arith
 
-by-rule : (b : ℕ) → TableFolded Candidate kept-shares shared-arm (suc b) shared-arm-folded 1 0
+by-rule : (by : Choosing) (b : ℕ) → TableFolded Candidate (kept-shares by) shared-arm (suc b) shared-arm-folded 1 0
 unfolding applied
-by-rule b = record {
+by-rule by b = record {
   same-size = record { well-formed = folded-listed .0; as-many-vertices = refl; as-many-counts = refl };
-  graph-folded = rw (none-behind b) at (folded-of (the-fold-lawful .candidates-lawful) (the-fold-lawful .rule-lawful) acyclic (applied b));
+  graph-folded = rw (none-behind b) at (folded-of (the-fold-lawful by .candidates-lawful) (the-fold-lawful by .rule-lawful) acyclic (applied by b));
 }
 
 -- The table can be folded,
 pub shared-arm-foldable : Foldable shared-arm
 shared-arm-foldable = record { sound = record { well-formed = listed .0; count-each = refl; sum-fits = omega arith }; acyclic = folds-acyclic acyclic }
 
--- and every call with room and a budget of 1 or more leaves 0>1 1>2 2>4 with the counts 5 6 4 0 5, and answers folded 1, left 0, edges 3.
-pub shared-arm-fold : (budget : ℕ) {table′ : Table} → 0 < budget → (call : FoldCall the-fold shared-arm budget table′)
+-- and every call of either version with room and a budget of 1 or more leaves 0>1 1>2 2>4 with the counts 5 6 4 0 5, and answers folded 1, left 0, edges 3.
+pub shared-arm-fold : (by : Choosing) (budget : ℕ) {table′ : Table} → 0 < budget → (call : FoldCall (the-fold by) shared-arm budget table′)
     → (table′ ≡ shared-arm-folded) × (call .answer .folded ≡ 1) × (call .answer .left ≡ 0) × (call .answer .edges ≡ 3)
-shared-arm-fold zero h call = absurd (let none : ⊥ = omega arith in none)
-shared-arm-fold (suc b) h call =
-    let (same, folded, left) = table-folds-coincide the-fold-lawful acyclic (fold-by-rule shared-arm-foldable call) (by-rule b) in
-    (same, folded, left, fold-edges shared-arm-foldable call ∙ ap (λ (t : Table). length (t .rows .targets)) same)
+shared-arm-fold by zero h call = absurd (let none : ⊥ = omega arith in none)
+shared-arm-fold by (suc b) h call =
+    let (same, folded, left) = table-folds-coincide (the-fold-lawful by) acyclic (fold-by-rule by shared-arm-foldable call) (by-rule by b) in
+    (same, folded, left, fold-edges by shared-arm-foldable call ∙ ap (λ (t : Table). length (t .rows .targets)) same)

@@ -7,15 +7,15 @@ use native.Mathlib.Omega.{arith}
 use lib.ListN.{length, take, drop, length-drop}
 use Rattle.table.specs.Verdict.{Verdict}
 use Rattle.table.specs.Table.{Rows, Table, size, edges, Sound, SoundTable}
-use Rattle.table.specs.Numbers.{tableDemands, countedDemands, roomFor}
+use Rattle.table.specs.Numbers.{tableDemands, countedDemands}
 use Rattle.table.proofs.VerdictLaws.{verdict-unique}
 use Rattle.table.proofs.Accepted.{well-formed-accepted, counted-accepted}
-use Rattle.layout.specs.Image.{imageLength, imageOf}
+use Rattle.layout.specs.Image.{Contents, SoundContents, imageLength, imageOf}
 use Rattle.image.specs.declared.header.Sizes.{Sizes}
-use Rattle.image.specs.Contracts.{Looked, Loaded}
+use Rattle.image.specs.Contracts.{contentsRoom, Looked, Loaded}
 use Rattle.writing.specs.declared.Extent.{Extent}
 use Rattle.writing.specs.Writing.{Written}
-use Rattle.writing.proofs.WriteLaws.{table-written}
+use Rattle.writing.proofs.WriteLaws.{contents-written}
 use Rattle.bubble.specs.Superbubble.{Superbubble}
 use Rattle.bubble.proofs.Unique.{exit-unique}
 use Rattle.listing.specs.declared.Found.{Found}
@@ -26,6 +26,7 @@ use Rattle.promises.proofs.TwelveGraphs.{twelve-graphs}
 use Rattle.rule.specs.Lists.{Listing}
 use Rattle.rule.specs.Fold.{Candidate, Entrance}
 use Rattle.rule.specs.Way.{the-fold}
+use Rattle.rule.specs.declared.Choosing.{Choosing}
 use Rattle.rule.proofs.Listings.{listing-unique}
 use Rattle.rule.proofs.Remaining.{remaining-listed, items-number}
 use Rattle.rule.proofs.TheFold.{the-fold-lawful}
@@ -43,15 +44,17 @@ check-counted-accepts table number ok v = verdict-unique (countedDemands table) 
 
 -- with room it is written, look takes its image, and with room it is loaded. List, judge and fold are `list-accepted`, `judged` and `fold-accepted` of Demand2.
 
-pub write-accepts : {table : Table} {image image′ : List ℕ} {answer : Extent} → SoundTable table
-    → imageLength (size (table .rows)) (length (table .rows .targets)) ≤ length image → Written table image image′ answer → answer .number ≡ 0
-write-accepts = table-written
+pub write-accepts : {version : ℕ} {contents : Contents} {image image′ : List ℕ} {answer : Extent} → SoundContents version contents
+    → imageLength version (size (contents .table .rows)) (length (contents .table .rows .targets)) ≤ length image → Written version contents image image′ answer
+    → answer .number ≡ 0
+write-accepts = contents-written
 
-pub look-accepts : {table : Table} {answer : Sizes} → SoundTable table → Looked (imageOf table) answer → answer .number ≡ 0
+pub look-accepts : {version : ℕ} {contents : Contents} {answer : Sizes} → SoundContents version contents → Looked (imageOf version contents) answer → answer .number ≡ 0
 look-accepts = image-seen
 
-pub load-accepts : {table lent after : Table} {answer : Sizes} → SoundTable table → roomFor (size (table .rows)) (length (table .rows .targets)) lent .met
-    → Loaded (imageOf table) lent after answer → answer .number ≡ 0
+pub load-accepts : {version : ℕ} {contents lent after : Contents} {answer : Sizes} → SoundContents version contents
+    → contentsRoom version (size (contents .table .rows)) (length (contents .table .rows .targets)) lent .met
+    → Loaded (imageOf version contents) lent after answer → answer .number ≡ 0
 load-accepts = image-loaded
 
 -- ---- The same list for all: tables that get the same list have the same superbubbles.
@@ -75,27 +78,27 @@ no-list-for-all {out} {out′} {answer} taken b c =
 
 -- ---- A fold that copies its input, one that does every candidate on the first budget, and an invented folded or left:
 
-module _ {table table′ : Table} {budget : ℕ} (ok : Foldable table) (call : FoldCall the-fold table budget table′)
+module _ (by : Choosing) {table table′ : Table} {budget : ℕ} (ok : Foldable table) (call : FoldCall (the-fold by) table budget table′)
     {candidates : List ℕ} (listed : Listing (Entrance Candidate (edges (table .rows))) candidates) where
   -- the candidates of the new table are those after the first ones of the old, as many as the budget
   pub candidates-after : Listing (Entrance Candidate (edges (table′ .rows))) (drop budget candidates)
   candidates-after =
-      let folded = fold-by-rule ok call .graph-folded .applied in
+      let folded = fold-by-rule by ok call .graph-folded .applied in
       let same : folded .candidates ≡ candidates = listing-unique (folded .listed) listed in
-      rw same at (remaining-listed (the-fold-lawful .candidates-lawful) (the-fold-lawful .rule-lawful) (foldable-kind ok) folded)
+      rw same at (remaining-listed (the-fold-lawful by .candidates-lawful) (the-fold-lawful by .rule-lawful) (foldable-kind ok) folded)
 
   -- folded is the number of the old table's candidates, or the budget if that is less
   pub folded-is : call .answer .folded ≡ min budget (length candidates)
   folded-is =
-      let folded = fold-by-rule ok call .graph-folded in
+      let folded = fold-by-rule by ok call .graph-folded in
       let same : folded .applied .candidates ≡ candidates = listing-unique (folded .applied .listed) listed in
-      rw same at (folded .how-many ∙ items-number (the-fold-lawful .candidates-lawful) (the-fold-lawful .rule-lawful) (foldable-kind ok) (folded .applied))
+      rw same at (folded .how-many ∙ items-number (the-fold-lawful by .candidates-lawful) (the-fold-lawful by .rule-lawful) (foldable-kind ok) (folded .applied))
 
   -- left is the number of the new table's candidates, and so of those that were not folded
   pub left-is : {after : List ℕ} → Listing (Entrance Candidate (edges (table′ .rows))) after
       → (call .answer .left ≡ length after) × (call .answer .left ≡ length candidates - call .answer .folded)
   left-is {after} there =
-      let (l, held, number) = fold-by-rule ok call .graph-folded .remaining in
+      let (l, held, number) = fold-by-rule by ok call .graph-folded .remaining in
       let number-after : length after ≡ length (drop budget candidates) = ap length (listing-unique there candidates-after) in
       let number-left : call .answer .left ≡ length after = number ∙ ap length (listing-unique held there) in
       (number-left, omega (arith, number-left, number-after, length-drop budget candidates, folded-is))

@@ -5,4 +5,5 @@ pub mod RoundTrip
 pub mod InARow
 pub mod Calls
 pub mod Runs
+pub mod Weakest
 pub mod Worked
