@@ -1,5 +1,5 @@
-// Folds the table that stands in the image in the file IN: `fold BUDGET IN OUT` writes the image of the new table to the file OUT and prints `folded F left L edges M`;
-// or it prints `refused N`, and no file is written.
+// Folds the table that stands in the image in the file IN, by the rule of its version: `fold BUDGET IN OUT` writes the image of the new table, of the same version and with
+// the lengths as they were, to the file OUT and prints `folded F left L edges M`; or it prints `refused N`, and no file is written.
 use layout::Header;
 use words::Numeral;
 

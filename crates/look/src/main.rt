@@ -1,11 +1,11 @@
-// Prints whether the image on standard input is sound, and how big its table is: `table N M`, or `refused N`.
+// Prints whether the image on standard input is sound, and how big its table is: `table N M`, in version 2 `table N M lengths`, or `refused N`.
 use layout::Header;
 
 // Says how the program is called.
 fn usage() {
     io::write_all(
         libc::STDOUT_FILENO,
-        b"usage: look < IMAGE: prints how many vertices and edges the table in an image has\n",
+        b"usage: look < IMAGE: prints how many vertices and edges the table in an image has, and whether it has lengths\n",
     );
 }
 

@@ -1,11 +1,12 @@
-// Prints the table that stands in the image on standard input: `table N M`, then for each vertex its number, its count and its successors; or `refused N`.
+// Prints the table that stands in the image on standard input: `table N M`, in version 2 `table N M lengths`, then for each vertex its number, its count, in version 2 its
+// length, and its successors; or `refused N`.
 use layout::Header;
 
 // Says how the program is called.
 fn usage() {
     io::write_all(
         libc::STDOUT_FILENO,
-        b"usage: show < IMAGE: prints the table in an image, for each vertex its number, its count and its successors\n",
+        b"usage: show < IMAGE: prints the table in an image, for each vertex its number, its count, its length if it has one, and its successors\n",
     );
 }
 
