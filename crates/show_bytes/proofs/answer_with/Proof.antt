@@ -1,38 +1,52 @@
--- `show_bytes::answer_with` meets its contract: an image that is taken in has its table at the fronts of the arrays. Assumes nothing.
+-- `show_bytes::answer_with` meets its contract: what an accepted image holds stands at the fronts of the arrays. Assumes nothing.
 use mathlib.Core.Path.{refl, sym}
+use native.Mathlib.Omega.{arith}
 use lib.Seq.{length-take-le}
 use borrow.Author.Needs.{needs}
-use Rattle.table.specs.Table.{Table}
-use Rattle.taking.proofs.TakenLaws.{TakenTable, taken-table}
+use Rattle.layout.specs.Lengths.{lengthCount}
+use Rattle.layout.specs.Image.{Contents}
+use Rattle.taking.proofs.TakenLaws.{TakenTable, TakenLengths, taken-same, taken-sound, taken-table, taken-lengths}
 use Rattle.printing.proofs.PutLaws.{front-counts}
 use Rattle.printing.proofs.AnsweredLaws.{refusal-answers}
-use Rattle.show_bytes.proofs.PutTable.{table-answers}
+use Rattle.show_bytes.proofs.PutContents.{contents-answers}
 use Rattle.show_bytes.proofs.answer_with.Statement.{statement}
 use Rattle.show_bytes.proofs.answer_with.Tie as tie
 
 -- The places that the needs look back to, each seen from a place nearer to them.
+abbrev after-shared-slice-known : tie.After-take-in → tie.After-shared-slice-known
+after-shared-slice-known c = c .before .before .before .before .before
+
 abbrev entry : tie.After-take-in → tie.Start
-entry c = c .before .before .before .before .before
+entry c = after-shared-slice-known c .before
 
 abbrev after-take-in : tie.After-refusal → tie.After-take-in
 after-take-in c = c .before .before .before .before
 
-abbrev in-else1 : tie.After-put-table-arg2 → tie.Else1
-in-else1 c = c .before .before .before .before .before .before .before .before
+abbrev after-lengths : tie.After-put-contents-arg2 → tie.After-lengths
+after-lengths c = c .before .before .before .before .before .before .before .before .before .before
 
 -- the arrays that the image was taken into
-abbrev filled : tie.After-take-in → Table
+abbrev filled : tie.After-take-in → Contents
 filled c =
     record {
-      rows = record { starts = c .take-in .last .1 .0; targets = c .take-in .last .1 .1 .0 };
-      counts = c .take-in .last .1 .1 .1 .0;
+      table =
+          record {
+            rows = record { starts = c .take-in .last .1 .0; targets = c .take-in .last .1 .1 .0 };
+            counts = c .take-in .last .1 .1 .1 .0;
+          };
+      lengths = c .take-in .last .1 .1 .1 .1 .0;
     }
 
--- the table of an accepted image stands at their fronts
+-- the table of an accepted image stands at their fronts, and so do its lengths
 taken : (c : tie.Else1)
     → let done = c .before .before in
-    TakenTable (entry done .args .image .now) (filled done) (done .take-in .result .vertices) (done .take-in .result .edges)
+    TakenTable (entry done .args .image .now) (filled done .table) (done .take-in .result .vertices) (done .take-in .result .edges)
 taken c = taken-table (c .before .before .take-in .ensures .0) (c .if1 .left)
+
+within : (c : tie.Else1)
+    → let done = c .before .before in
+    TakenLengths (entry done .args .image .now) (filled done .lengths) (lengthCount (done .take-in .result .version) (done .take-in .result .vertices))
+within c = taken-lengths (c .before .before .take-in .ensures .0) (c .if1 .left)
 
 take-in-requires : tie.Need-take-in-requires
 take-in-requires c κs = search needs
@@ -45,26 +59,40 @@ returns c =
     let done = refusal-answers (c .before .before .if1 .taken) (after-take-in c .take-in .ensures .0 .looked .verdict) (c .refusal .ensures) in
     (done, front-counts (done .at-front))
 
-add-put-table : tie.Need-add-put-table
-add-put-table c = search needs
+lengths-requires : tie.Need-lengths-requires
+lengths-requires c κs = search needs
 
-slice-aggregate-put-table : tie.Need-slice-aggregate-put-table
-slice-aggregate-put-table c = sym (length-take-le _ _ (taken (in-else1 c) .starts-within))
+add-put-contents : tie.Need-add-put-contents
+add-put-contents c = search needs
 
-slice-aggregate-put-table-2 : tie.Need-slice-aggregate-put-table-2
-slice-aggregate-put-table-2 c = sym (length-take-le _ _ (taken (in-else1 (c .before)) .targets-within))
+slice-aggregate-put-contents : tie.Need-slice-aggregate-put-contents
+slice-aggregate-put-contents c = sym (length-take-le _ _ (taken (after-lengths c .before) .starts-within))
 
-slice-aggregate-put-table-3 : tie.Need-slice-aggregate-put-table-3
-slice-aggregate-put-table-3 c = sym (length-take-le _ _ (taken (in-else1 (c .before .before)) .counts-within))
+slice-aggregate-put-contents-2 : tie.Need-slice-aggregate-put-contents-2
+slice-aggregate-put-contents-2 c = sym (length-take-le _ _ (taken (after-lengths (c .before) .before) .targets-within))
 
-put-table-requires : tie.Need-put-table-requires
-put-table-requires c κs = taken (in-else1 (c .before .before)) .fronts-sound
+slice-aggregate-put-contents-3 : tie.Need-slice-aggregate-put-contents-3
+slice-aggregate-put-contents-3 c = sym (length-take-le _ _ (taken (after-lengths (c .before .before) .before) .counts-within))
+
+slice-aggregate-put-contents-4 : tie.Need-slice-aggregate-put-contents-4
+slice-aggregate-put-contents-4 c =
+    let counted = after-lengths (c .before .before .before) in
+    sym (length-take-le _ _ (omega (arith, within (counted .before) .lengths-within, counted .lengths .ensures)))
+
+put-contents-requires : tie.Need-put-contents-requires
+put-contents-requires c κs =
+    let counted = after-lengths (c .before .before .before) in
+    let start = counted .before in
+    let bytes = after-shared-slice-known (start .before .before) .shared-slice-known .given in
+    taken-sound (start .before .before .take-in .ensures .0) (start .if1 .left) (counted .lengths .ensures) (λ k h. omega (arith, bytes k))
 
 returns-2 : tie.Need-returns-2
 returns-2 c =
-    let start = in-else1 (c .before .before .before) in
-    let done = c .put-table .ensures in
-    (table-answers (start .before .before .take-in .ensures .0 .looked) (start .if1 .left) (taken start .fronts-same) refl done, front-counts done)
+    let counted = after-lengths (c .before .before .before .before) in
+    let start = counted .before in
+    let took = start .before .before .take-in .ensures .0 in
+    let done = c .put-contents .ensures in
+    (contents-answers (took .looked) (start .if1 .left) (taken-same took (start .if1 .left) (counted .lengths .ensures)) refl done, front-counts done)
 
 pub answer-with-spec : {M : Type 1} → statement M
 answer-with-spec =
@@ -73,9 +101,11 @@ answer-with-spec =
     take-in-requires
     refusal-requires
     returns
-    add-put-table
-    slice-aggregate-put-table
-    slice-aggregate-put-table-2
-    slice-aggregate-put-table-3
-    put-table-requires
+    lengths-requires
+    add-put-contents
+    slice-aggregate-put-contents
+    slice-aggregate-put-contents-2
+    slice-aggregate-put-contents-3
+    slice-aggregate-put-contents-4
+    put-contents-requires
     returns-2)

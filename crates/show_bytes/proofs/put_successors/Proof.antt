@@ -8,7 +8,7 @@ use Rattle.texts.specs.Text.{decimal, following}
 use Rattle.printing.specs.Put.{Put}
 use Rattle.printing.proofs.PutLaws.{put-nothing}
 use Rattle.show_bytes.proofs.Long.{successors-within}
-use Rattle.show_bytes.proofs.PutTable.{put-successor, put-row}
+use Rattle.show_bytes.proofs.PutContents.{put-successor, put-row}
 use Rattle.show_bytes.proofs.put_successors.Statement.{statement}
 use Rattle.show_bytes.proofs.put_successors.Tie as tie
 
