@@ -30,7 +30,19 @@ use Rattle.rule.specs.declared.Choosing.{Choosing}
 use Rattle.folding.specs.declared.folds.Folded.{Folded}
 use Rattle.folding.specs.Folding.{foldRoom, foldDemands, FoldDone}
 use Rattle.promises.specs.Images.{GoodImage}
-use Rattle.promises.proofs.Decided.{DecidedInTurn, gives-number, decided-then, both, table-decided, counts-decided, contents-decided, image-decided, room-decided, contents-room-decided, acyclic-decided}
+use Rattle.promises.proofs.Decided.{
+  DecidedInTurn,
+  gives-number,
+  decided-then,
+  both,
+  table-decided,
+  counts-decided,
+  contents-decided,
+  image-decided,
+  room-decided,
+  contents-room-decided,
+  acyclic-decided,
+}
 use Rattle.promises.proofs.GoodImages.{met-good}
 
 -- A table of any content gets an answer: the check has a number for it, without counts and with them,

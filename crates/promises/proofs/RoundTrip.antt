@@ -36,8 +36,10 @@ pub image-loaded : {version : ℕ} {contents lent after : Contents} {answer : Si
 image-loaded {version} {contents} {lent} {after} {answer} sound room loads =
     let image = imageOf version contents in
     let asked = contentsRoom (versionOf image) (verticesOf image) (edgesOf image) lent in
+    let room-asked : asked .met
+    = rw (version-back version contents sound, vertices-back version contents sound, edges-back version contents sound) room in
     verdict-unique (imageDemands image ++ asked ∷ []) (answer .number) 0 (loads .verdict)
-    (goes-on (imageDemands image) (asked ∷ []) 0 (image-met version contents sound) (inr (rw (version-back version contents sound, vertices-back version contents sound, edges-back version contents sound) room, refl)))
+    (goes-on (imageDemands image) (asked ∷ []) 0 (image-met version contents sound) (inr (room-asked, refl)))
 
 -- writing accepted contents, in either version, and loading them, with room, gives them back
 pub written-then-loaded : {version : ℕ} {contents : Contents} {slice image : List ℕ} {written : Extent} → Known version → Below 65536 (contents .lengths)

@@ -1,6 +1,6 @@
 -- Demand 3 over files: it is safe to run fold twice. Of all that the contract of `fold_bytes` allows: take runs by one or more budgets in turn, each on the bytes that the last
--- one wrote, by the rule of their version. A run is one that refuses nothing: on a good image without a directed cycle every run is (`fold-answers-exactly`). The theorems hold for every list of budgets,
--- so for those whose sum is within a single budget's range. Assumes nothing.
+-- one wrote, by the rule of their version. A run is one that refuses nothing: on a good image without a directed cycle every run is (`fold-answers-exactly`). The theorems
+-- hold for every list of budgets, so for those whose sum is within a single budget's range. Assumes nothing.
 use Prim.Native.Nat.{ℕ, _≤_}
 use mathlib.Core.Path.{_≡_}
 use mathlib.Core.List.{List}

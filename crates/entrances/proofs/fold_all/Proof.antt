@@ -72,9 +72,10 @@ loop-again : tie.Need-loop-again Inv-loop μ-loop
 loop-again c = let inv = at-loop (after-fold-at (c .before) .before) .loop .inv in
     let inside = in-loop (after-fold-at (c .before) .before) .loop-test .taken in
     let call = after-fold-at (c .before) .fold-at in
-    let after = c .next-entrance2 .ensures in (
+    let after = c .next-entrance2 .ensures in
+    let by = entry (after-next-entrance (after-fold-at (c .before) .before)) .args .by in (
       call .ensures .room,
-      turning-to (turning-more (inv .1) (the-fold-lawful (entry (after-next-entrance (after-fold-at (c .before) .before)) .args .by)) (inv .0 .counted) inside (inv .2 inside .0) (inv .2 inside .1) (call .ensures)) after (λ l. omega arith),
+      turning-to (turning-more (inv .1) (the-fold-lawful by) (inv .0 .counted) inside (inv .2 inside .0) (inv .2 inside .1) (call .ensures)) after (λ l. omega arith),
       λ h. (after .entrance h .0, omega (arith, after .entrance h .1)),
       call .kept .1 .1 .1 .1 .1 .1 .0 ∙ inv .3,
       call .kept .1 .1 .1 .1 .1 .1 .1 .0 ∙ inv .4,

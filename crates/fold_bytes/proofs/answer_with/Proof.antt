@@ -93,8 +93,9 @@ returns-2 c =
     let first = first-argument (c .before) in
     let start = in-else1 first in
     let took = start .before .before .take-in .ensures .0 in
-    let done = image-folded fold-of _ (took .looked) (start .if1 .left) (took .looked .taken (start .if1 .left) .same-version) (taken-same took (start .if1 .left) (after-lengths first .lengths .ensures))
-    (c .fold-contents .ensures) in
+    let same-version = took .looked .taken (start .if1 .left) .same-version in
+    let same-contents = taken-same took (start .if1 .left) (after-lengths first .lengths .ensures) in
+    let done = image-folded fold-of _ (took .looked) (start .if1 .left) same-version same-contents (c .fold-contents .ensures) in
     (done, (front-counts (done .line-front), front-counts (done .image-front)))
 
 pub answer-with-spec : {M : Type 1} → statement M

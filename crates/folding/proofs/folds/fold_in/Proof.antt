@@ -58,8 +58,10 @@ same-length-4 : tie.Need-same-length-4
 same-length-4 c = search needs
 
 returns : tie.Need-returns
-returns c = let pre = entry (after-rows (after-write-table c .before)) .pre in
-    (refl, folded-at (the-fold-lawful (entry (after-rows (after-write-table c .before)) .args .by)) (pre .counted) (pre .kind) (after-turn (after-write-table c .before) .turn .ensures) (after-write-table c .write-table .ensures))
+returns c =
+    let start = entry (after-rows (after-write-table c .before)) in
+    let written = after-write-table c in
+    (refl, folded-at (the-fold-lawful (start .args .by)) (start .pre .counted) (start .pre .kind) (after-turn (written .before) .turn .ensures) (written .write-table .ensures))
 
 pub fold-in-spec : {M : Type 1} → statement M
 fold-in-spec =
