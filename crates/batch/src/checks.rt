@@ -55,7 +55,7 @@ pub fn check_case(
     requires { ⌜ Place at ⌝ }
     ensures { λ r. ⌜ Place (r .place) ⌝ }
 {
-    let lent = lay(body, 0, words, counts);
+    let lent = lay(body, 0, 12, 0, words, counts);
     if !lent.fit {
         return bad_case(out, at);
     }

@@ -35,7 +35,7 @@ fn put_listed(
     let listed = listing::list(&words[0..a], &words[a..e], &mut list[..room]);
     let mut place = put_head(out, at, b"list", listed.number, listed.found);
     place = output::byte(out, place, b'\n');
-    place = put_words(out, place, &list[0..room]);
+    place = put_words(out, place, list, room);
     output::byte(out, place, b'\n')
 }
 

@@ -106,12 +106,12 @@ fn answer(
     match operation {
         b's' => show_case(out, at, body),
         b't' => check_case(out, at, body, words, counts),
-        b'w' => write_case(out, at, body, words, counts),
+        b'w' | b'x' => write_case(out, at, operation, body, words, counts),
         b'k' => look_case(out, at, body),
         b'd' => load_case(out, at, body),
         b'l' => list_case(out, at, body, words),
         b'j' => judge_case(out, at, body, words),
-        b'f' => fold_case(out, at, body, words, counts),
+        b'f' | b'g' => fold_case(out, at, operation, body, words, counts),
         _ => bad_case(out, at),
     }
 }

@@ -2,7 +2,7 @@
 use table::EDGE_LIMIT;
 use table::VERTEX_LIMIT;
 
-// Starts, or counts.
+// Starts, counts, or lengths.
 pub const VERTICES: usize = 2 * VERTEX_LIMIT;
 
 // Targets.

@@ -6,56 +6,56 @@ use borrow.Author.Needs.{needs}
 use Rattle.batch.proofs.folds.fold_rooms.Statement.{statement}
 use Rattle.batch.proofs.folds.fold_rooms.Tie as tie
 
-sub-put-folded : tie.Need-sub-put-folded
-sub-put-folded c = search needs
+sub-fold-slices : tie.Need-sub-fold-slices
+sub-fold-slices c = search needs
 
-part-put-folded-start : tie.Need-part-put-folded-start
-part-put-folded-start c = search needs
+part-fold-slices-start : tie.Need-part-fold-slices-start
+part-fold-slices-start c = search needs
 
-part-put-folded-end : tie.Need-part-put-folded-end
-part-put-folded-end c = search needs
+part-fold-slices-end : tie.Need-part-fold-slices-end
+part-fold-slices-end c = search needs
 
-mul-put-folded : tie.Need-mul-put-folded
-mul-put-folded c = search needs
+mul-fold-slices : tie.Need-mul-fold-slices
+mul-fold-slices c = search needs
 
-sub-put-folded-2 : tie.Need-sub-put-folded-2
-sub-put-folded-2 c = search needs
+sub-fold-slices-2 : tie.Need-sub-fold-slices-2
+sub-fold-slices-2 c = search needs
 
-part-put-folded-start-2 : tie.Need-part-put-folded-start-2
-part-put-folded-start-2 c = search needs
+part-fold-slices-start-2 : tie.Need-part-fold-slices-start-2
+part-fold-slices-start-2 c = search needs
 
-part-put-folded-end-2 : tie.Need-part-put-folded-end-2
-part-put-folded-end-2 c = search needs
+part-fold-slices-end-2 : tie.Need-part-fold-slices-end-2
+part-fold-slices-end-2 c = search needs
 
-sub-put-folded-3 : tie.Need-sub-put-folded-3
-sub-put-folded-3 c = search needs
+sub-fold-slices-3 : tie.Need-sub-fold-slices-3
+sub-fold-slices-3 c = search needs
 
-part-put-folded-start-3 : tie.Need-part-put-folded-start-3
-part-put-folded-start-3 c = search needs
+part-fold-slices-start-3 : tie.Need-part-fold-slices-start-3
+part-fold-slices-start-3 c = search needs
 
-part-put-folded-end-3 : tie.Need-part-put-folded-end-3
-part-put-folded-end-3 c = search needs
+part-fold-slices-end-3 : tie.Need-part-fold-slices-end-3
+part-fold-slices-end-3 c = search needs
 
-slice-relend-prefix-put-folded : tie.Need-slice-relend-prefix-put-folded
-slice-relend-prefix-put-folded c = search needs
+slice-relend-prefix-fold-slices : tie.Need-slice-relend-prefix-fold-slices
+slice-relend-prefix-fold-slices c = search needs
 
-slice-aggregate-put-folded : tie.Need-slice-aggregate-put-folded
-slice-aggregate-put-folded c = sym (length-take-le _ _ (omega arith))
+slice-aggregate-fold-slices : tie.Need-slice-aggregate-fold-slices
+slice-aggregate-fold-slices c = sym (length-take-le _ _ (omega arith))
 
-slice-relend-prefix-put-folded-2 : tie.Need-slice-relend-prefix-put-folded-2
-slice-relend-prefix-put-folded-2 c = search needs
+slice-relend-prefix-fold-slices-2 : tie.Need-slice-relend-prefix-fold-slices-2
+slice-relend-prefix-fold-slices-2 c = search needs
 
-slice-aggregate-put-folded-2 : tie.Need-slice-aggregate-put-folded-2
-slice-aggregate-put-folded-2 c = sym (length-take-le _ _ (omega arith))
+slice-aggregate-fold-slices-2 : tie.Need-slice-aggregate-fold-slices-2
+slice-aggregate-fold-slices-2 c = sym (length-take-le _ _ (omega arith))
 
-slice-relend-prefix-put-folded-3 : tie.Need-slice-relend-prefix-put-folded-3
-slice-relend-prefix-put-folded-3 c = search needs
+slice-relend-prefix-fold-slices-3 : tie.Need-slice-relend-prefix-fold-slices-3
+slice-relend-prefix-fold-slices-3 c = search needs
 
-slice-aggregate-put-folded-3 : tie.Need-slice-aggregate-put-folded-3
-slice-aggregate-put-folded-3 c = sym (length-take-le _ _ (omega arith))
+slice-aggregate-fold-slices-3 : tie.Need-slice-aggregate-fold-slices-3
+slice-aggregate-fold-slices-3 c = sym (length-take-le _ _ (omega arith))
 
-put-folded-requires : tie.Need-put-folded-requires
-put-folded-requires c κs = search needs
+fold-slices-requires : tie.Need-fold-slices-requires
+fold-slices-requires c κs = search needs
 
 same-length : tie.Need-same-length
 same-length c = search needs
@@ -73,23 +73,23 @@ pub fold-rooms-spec : {M : Type 1} → statement M
 fold-rooms-spec =
     tie.close
     (tie.spec
-    sub-put-folded
-    part-put-folded-start
-    part-put-folded-end
-    mul-put-folded
-    sub-put-folded-2
-    part-put-folded-start-2
-    part-put-folded-end-2
-    sub-put-folded-3
-    part-put-folded-start-3
-    part-put-folded-end-3
-    slice-relend-prefix-put-folded
-    slice-aggregate-put-folded
-    slice-relend-prefix-put-folded-2
-    slice-aggregate-put-folded-2
-    slice-relend-prefix-put-folded-3
-    slice-aggregate-put-folded-3
-    put-folded-requires
+    sub-fold-slices
+    part-fold-slices-start
+    part-fold-slices-end
+    mul-fold-slices
+    sub-fold-slices-2
+    part-fold-slices-start-2
+    part-fold-slices-end-2
+    sub-fold-slices-3
+    part-fold-slices-start-3
+    part-fold-slices-end-3
+    slice-relend-prefix-fold-slices
+    slice-aggregate-fold-slices
+    slice-relend-prefix-fold-slices-2
+    slice-aggregate-fold-slices-2
+    slice-relend-prefix-fold-slices-3
+    slice-aggregate-fold-slices-3
+    fold-slices-requires
     same-length
     same-length-2
     same-length-3

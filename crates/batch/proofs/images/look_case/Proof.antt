@@ -1,5 +1,6 @@
--- `batch::images::look_case` meets its contract: the slices have room for n and m of any image that look accepts. Assumes nothing.
+-- `batch::images::look_case` meets its contract: the slices have room for what any image holds that look accepts. Assumes nothing.
 use native.Mathlib.Omega.{arith}
+use Rattle.layout.proofs.LengthLaws.{lengths-most}
 use Rattle.in_place.specs.InPlace.{Sized}
 use Rattle.image.proofs.LookLaws.{looked-says}
 use borrow.Author.Needs.{needs}
@@ -7,6 +8,9 @@ use Rattle.batch.proofs.images.look_case.Statement.{statement}
 use Rattle.batch.proofs.images.look_case.Tie as tie
 
 -- The places that the needs look back to, each seen from a place nearer to them.
+abbrev counted : tie.After-put-loaded-arg2 → tie.After-lengths
+counted c = c .before .before
+
 abbrev after-look : tie.Else2 → tie.After-look
 after-look c = c .before .before .before .before .before
 
@@ -16,7 +20,7 @@ entry c = c .before .before .before
 -- n and m are within the limits
 sized : (c : tie.Else2)
     → let looked = after-look c in
-    Sized (entry looked .args .body .now) (looked .look .result .vertices) (looked .look .result .edges)
+    Sized (entry looked .args .body .now) (looked .look .result .version) (looked .look .result .vertices) (looked .look .result .edges)
 sized c = looked-says (after-look c .look .ensures) (c .if2 .left) .sized
 
 bad-case-requires : tie.Need-bad-case-requires
@@ -46,11 +50,16 @@ returns-2 c = search needs
 add-answered : tie.Need-add-answered
 add-answered c = omega (arith, sized (c .before))
 
-slice-aggregate-load-rooms : tie.Need-slice-aggregate-load-rooms
-slice-aggregate-load-rooms c = search needs
+lengths-requires : tie.Need-lengths-requires
+lengths-requires c κs = search needs
 
-load-rooms-requires : tie.Need-load-rooms-requires
-load-rooms-requires c κs = omega (arith, sized (c .before .before .before))
+slice-aggregate-put-loaded : tie.Need-slice-aggregate-put-loaded
+slice-aggregate-put-loaded c = search needs
+
+put-loaded-requires : tie.Need-put-loaded-requires
+put-loaded-requires c κs =
+    let answer = after-look (counted c .before .before) .look .result in
+    omega (arith, sized (counted c .before .before), counted c .lengths .ensures, lengths-most (answer .version) (answer .vertices))
 
 answered-requires-2 : tie.Need-answered-requires-2
 answered-requires-2 c κs = search needs
@@ -71,7 +80,8 @@ look-case-spec =
     answered-requires
     returns-2
     add-answered
-    slice-aggregate-load-rooms
-    load-rooms-requires
+    lengths-requires
+    slice-aggregate-put-loaded
+    put-loaded-requires
     answered-requires-2
     returns-3)

@@ -45,15 +45,6 @@ put-head-requires c κs = search needs
 byte-requires : tie.Need-byte-requires
 byte-requires c κs = search needs
 
-sub-put-words : tie.Need-sub-put-words
-sub-put-words c = search needs
-
-part-put-words-start : tie.Need-part-put-words-start
-part-put-words-start c = search needs
-
-part-put-words-end : tie.Need-part-put-words-end
-part-put-words-end c = search needs
-
 put-words-requires : tie.Need-put-words-requires
 put-words-requires c κs = search needs
 
@@ -83,9 +74,6 @@ put-listed-spec =
     slice-aggregate-put-head
     put-head-requires
     byte-requires
-    sub-put-words
-    part-put-words-start
-    part-put-words-end
     put-words-requires
     byte-requires-2
     same-length

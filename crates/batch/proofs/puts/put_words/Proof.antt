@@ -1,17 +1,16 @@
 -- `batch::puts::put_words` meets its contract. The loop's invariant: the place lies within the buffer. Assumes nothing.
 use Prim.Native.Nat.{_-_, _≤_}
 use native.Mathlib.Omega.{arith}
-use lib.ListN.{length}
 use borrow.Author.Needs.{needs}
 use Rattle.batch.specs.Buffer.{Place}
 use Rattle.batch.proofs.puts.put_words.Statement.{statement}
 use Rattle.batch.proofs.puts.put_words.Tie as tie
 
 abbrev Inv-loop : tie.InvT-loop
-Inv-loop out₀ at numbers place₀ k₀ out place k = (k ≤ length numbers) × (Place place)
+Inv-loop out₀ at numbers count place₀ k₀ out place k = (k ≤ count) × (Place place)
 
 abbrev μ-loop : tie.MeasureT-loop
-μ-loop out₀ at numbers place₀ k₀ out place k = length numbers - k
+μ-loop out₀ at numbers count place₀ k₀ out place k = count - k
 
 loop-holds : tie.Need-loop-holds Inv-loop μ-loop
 loop-holds c = search needs
