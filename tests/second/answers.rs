@@ -4,13 +4,14 @@
 
 use crate::count::Fault;
 use crate::fold::{self, Folded};
-use crate::image::{self, Room};
+use crate::image::{self, Content, Room, SLICES};
 use crate::operations::Operation::{self, *};
 use crate::operations::MOST_ROOM;
 use crate::parts::{difference_of_parts, Part};
 use crate::quick;
 use crate::superbubbles::{self, Way};
 use crate::table::{number_given, Table};
+use crate::versions::Version;
 
 /// What every byte of a lent image slice is before the call, and every number of the lent output.
 const BYTE_BEFORE: u8 = 165;
@@ -38,19 +39,23 @@ impl Operation {
                 let without = number_given(&table.faults_without_counts());
                 format!("check {without} counted {number}\n").into_bytes()
             }
-            Write { room, table } => {
-                let image = if number == 0 { image::of_table(table) } else { Vec::new() };
-                let mut answer = format!("wrote {number} {}\n", image.len()).into_bytes();
+            Write { room, content } => {
+                let wrote = match content.version() {
+                    Version::One => "wrote",
+                    Version::Two => "wrote_lengths",
+                };
+                let image = if number == 0 { content.image() } else { Vec::new() };
+                let mut answer = format!("{wrote} {number} {}\n", image.len()).into_bytes();
                 let end = answer.len() + room;
                 answer.extend(image);
                 answer.resize(end, BYTE_BEFORE);
                 answer.push(b'\n');
                 answer
             }
-            Look { .. } if number != 0 => format!("look {number} 0 0\n").into_bytes(),
+            Look { .. } if number != 0 => format!("look {number} 0 0 0\n").into_bytes(),
             Look { stream } => {
-                let (n, m) = image::table_in(stream).sizes();
-                load(&format!("look 0 {n} {m} "), stream, Room::of(n, m))
+                let room = image::room_for(stream).expect("what is accepted has a header");
+                load(&format!("look 0 {} ", sizes(&image::content_in(stream))), stream, room)
             }
             Load { room, stream } => load("", stream, *room),
             List { room, table } => {
@@ -63,9 +68,9 @@ impl Operation {
                     if number == 0 { (way.judge)(table, *s as usize, *t as usize) } else { None };
                 judge(number, found.map(|superbubble| superbubble.all.len()))
             }
-            Fold { budget, room, table } => {
-                let folded = (number == 0).then(|| fold::fold(way, table, *budget));
-                fold(number, folded.unwrap_or_default(), *room)
+            Fold { version, budget, room, table } => {
+                let folded = (number == 0).then(|| fold::fold(way, *version, table, *budget));
+                fold(*version, number, folded.unwrap_or_default(), *room)
             }
         }
     }
@@ -100,19 +105,17 @@ impl Operation {
     /// says.
     fn lent(&self, answer: &[u8]) -> Vec<LentSlice> {
         let lent = |name, length, width| LentSlice { name, length, width };
-        let three = |room: Room| {
-            vec![
-                lent("starts", room.starts, 4),
-                lent("targets", room.targets, 4),
-                lent("counts", room.counts, 8),
-            ]
+        let all = |room: Room| {
+            let slices = SLICES.into_iter().zip(room.numbers()).zip([4, 4, 8, 2]);
+            slices.map(|((name, length), width)| lent(name, length, width)).collect::<Vec<_>>()
         };
         match self {
             Show { .. } | Check { .. } | Judge { .. } => Vec::new(),
             Write { room, .. } => vec![lent("image", *room, 1)],
             List { room, .. } => vec![lent("out", *room, 4)],
-            Look { .. } => room_looked_up(answer).map_or(Vec::new(), three),
-            Load { room, .. } | Fold { room, .. } => three(*room),
+            Look { .. } => room_looked_up(answer).map_or(Vec::new(), all),
+            Load { room, .. } => all(*room),
+            Fold { room, .. } => all(*room).into_iter().take(3).collect(),
         }
     }
 
@@ -159,10 +162,21 @@ fn little_endian(bytes: &[u8]) -> u64 {
 
 /// The answer to a question to load, behind the beginning of its line.
 fn load(beginning: &str, stream: &[u8], room: Room) -> Vec<u8> {
-    let number = number_given(&image::faults_of_load(stream, room));
-    let table = if number == 0 { image::table_in(stream) } else { Table::default() };
-    let (n, m) = table.sizes();
-    with_slices(format!("{beginning}load {number} {n} {m}\n"), table, room)
+    match number_given(&image::faults_of_load(stream, room)) {
+        0 => {
+            let content = image::content_in(stream);
+            with_slices(format!("{beginning}load 0 {}\n", sizes(&content)), content, room)
+        }
+        number => {
+            with_slices(format!("{beginning}load {number} 0 0 0\n"), Content::default(), room)
+        }
+    }
+}
+
+/// Version, n and m.
+fn sizes(content: &Content) -> String {
+    let (n, m) = content.table.sizes();
+    format!("{} {n} {m}", content.version().number())
 }
 
 /// The answer to a question to list.
@@ -180,19 +194,24 @@ pub fn judge(number: u32, size: Option<usize>) -> Vec<u8> {
     format!("judge {number} {} {}\n", size.is_some() as u32, size.unwrap_or(0)).into_bytes()
 }
 
-/// The answer to a question to fold.
-pub fn fold(number: u32, folded: Folded, room: Room) -> Vec<u8> {
+/// The answer to a question to fold by the fold of a version.
+pub fn fold(version: Version, number: u32, folded: Folded, room: Room) -> Vec<u8> {
     let Folded { table, folded, left } = folded;
-    with_slices(format!("fold {number} {folded} {left} {}\n", table.targets.len()), table, room)
+    let m = table.targets.len();
+    let first_line = format!("{} {number} {folded} {left} {m}\n", version.fold());
+    with_slices(first_line, Content { table, lengths: None }, room)
 }
 
-/// A first line, and then slices of this room with a table at their front.
-fn with_slices(first_line: String, mut table: Table, room: Room) -> Vec<u8> {
+/// A first line, and then slices of this room with table and lengths at their front.
+fn with_slices(first_line: String, content: Content, room: Room) -> Vec<u8> {
     let mut answer = first_line.into_bytes();
+    let Content { mut table, lengths } = content;
     table.starts.resize(room.starts, NUMBER_BEFORE as u32);
     table.targets.resize(room.targets, NUMBER_BEFORE as u32);
     table.counts.resize(room.counts, NUMBER_BEFORE as u64);
-    image::append_table(&mut answer, &table);
+    let mut lengths = lengths.unwrap_or_default();
+    lengths.resize(room.lengths, NUMBER_BEFORE as u16);
+    Content { table, lengths: Some(lengths) }.append_to(&mut answer);
     answer.push(b'\n');
     answer
 }
@@ -208,10 +227,11 @@ pub fn numbers_in_first_line(answer: &[u8]) -> Vec<usize> {
 /// The room into which a look that accepts has its image loaded, by its answer; none where it refuses,
 /// or where the answer says what cannot be.
 fn room_looked_up(answer: &[u8]) -> Option<Room> {
-    let [0, n, m, _, _, _] = numbers_in_first_line(answer)[..] else {
+    let [0, version, n, m, _, _, _, _] = numbers_in_first_line(answer)[..] else {
         return None;
     };
-    Some(Room::of(n, m)).filter(|room| room.is_within(MOST_ROOM))
+    let version = Version::of_number(u16::try_from(version).ok()?)?;
+    Some(Room::of_version(version, n, m)).filter(|room| room.is_within(MOST_ROOM))
 }
 
 /// What an accepted fold of n vertices gave, by its answer; none where it was refused, or where the
@@ -224,7 +244,7 @@ pub fn folded_in(answer: &[u8], room: Room, n: usize) -> Option<Folded> {
     if room.is_below(n, m) {
         return None;
     }
-    let mut table = image::slices_in(&answer[first..], room);
+    let mut table = image::table_in(&answer[first..], room);
     table.starts.truncate(n + 1);
     table.targets.truncate(m);
     table.counts.truncate(n);

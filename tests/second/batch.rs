@@ -10,6 +10,7 @@ use crate::parts::difference;
 use crate::programs::{self, SHORT, WHOLE};
 use crate::runs;
 use crate::table::Table;
+use crate::turns::Question;
 use std::path::Path;
 
 const QUESTIONS_TO_A_RUN: usize = 400;
@@ -56,21 +57,18 @@ pub fn came(printed: &Printed) -> &[u8] {
 }
 
 /// Folds tables, whatever comes of them.
-pub fn fold(questions: &[(&Table, u32)]) -> Vec<Result<Folded, String>> {
-    let room = |table: &Table| Room::of(table.counts.len(), table.targets.len());
-    let operation = |&(table, budget): &(&Table, u32)| Operation::Fold {
-        budget,
-        room: room(table),
-        table: table.clone(),
+pub fn fold(questions: &[Question]) -> Vec<Result<Folded, String>> {
+    let operation = |&(version, table, budget): &Question| {
+        Operation::fold_exactly(version, budget, table.clone())
     };
     let operations: Vec<Operation> = questions.iter().map(operation).collect();
     let printed = ask(&operations.iter().collect::<Vec<_>>());
     let folded = |(table, printed): (&Table, Printed)| {
         let printed = printed?;
-        let folded = answers::folded_in(&printed, room(table), table.counts.len());
+        let folded = answers::folded_in(&printed, Room::taken_by(table), table.counts.len());
         folded.ok_or_else(|| format!("it is not folded: {}", quoted(&printed)))
     };
-    questions.iter().map(|question| question.0).zip(printed).map(folded).collect()
+    questions.iter().map(|&(_, table, _)| table).zip(printed).map(folded).collect()
 }
 
 /// What is left of a run that ended early has no answer; what else a run has to tell is told by its

@@ -2,9 +2,9 @@
 //! its own number alone; the loads behind a look, which are of the same image, on that of the look.
 
 use crate::count::{Count, Fault};
-use crate::damages::{self, OF_IMAGE, OF_TABLE};
+use crate::damages;
 use crate::graphs::{self, TWELVE};
-use crate::image::{self, Kind, Room, ROOMS};
+use crate::image::{self, Content, Kind, Room, ROOMS};
 use crate::limits;
 use crate::operations::{exact_room, Operation, LONGEST_IMAGE};
 use crate::parallel;
@@ -13,6 +13,7 @@ use crate::random::Random;
 use crate::runs::ProgramRun;
 use crate::table::{Table, LARGEST_SUM};
 use crate::turns::{self, Folds, Turned, Turns};
+use crate::versions::{Version, VERSIONS};
 use crate::worked;
 use std::fmt::{self, Display, Formatter};
 
@@ -121,14 +122,18 @@ pub fn all(seed: u64) -> Vec<Case> {
     cases.well_formed();
     cases.damaged_tables();
     cases.damaged_images();
+    cases.lengths_of_0();
     cases.j_cut_and_changed();
     cases.noise();
     cases.superbubbles();
-    cases.folds();
-    cases.cycles();
-    cases.shares();
+    for version in VERSIONS {
+        cases.folds(version);
+        cases.cycles(version);
+        cases.shares(version);
+    }
+    cases.weakest();
     cases.programs();
-    cases.folds_in_turn();
+    VERSIONS.into_iter().for_each(|version| cases.folds_in_turn(version));
     cases.list
 }
 
@@ -137,8 +142,8 @@ pub fn answers(cases: &[Case]) -> Vec<Vec<u8>> {
     parallel::each(cases, Case::answer)
 }
 
-/// The cases so far. The makers stand here and in superbubble_cases.rs, fold_cases.rs, sharing_cases.rs
-/// and program_cases.rs.
+/// The cases so far. The makers stand here and in superbubble_cases.rs, fold_cases.rs, sharing_cases.rs,
+/// weakest_cases.rs and program_cases.rs.
 pub struct Cases {
     pub seed: u64,
     list: Vec<Case>,
@@ -174,9 +179,14 @@ impl Cases {
         Random::of_case(self.seed, self.list.len())
     }
 
-    /// A table, to be checked and to be written.
+    /// A table, to be checked and to be written in version 1.
     fn table(&mut self, name: &str, make: impl Fn(&mut Random) -> Table) {
         self.add(name, |random| Operation::Check { table: make(random) });
+        self.written(name, |random| Content { table: make(random), lengths: None });
+    }
+
+    /// A table, perhaps with lengths, to be written in the version that has these.
+    fn written(&mut self, name: &str, make: impl Fn(&mut Random) -> Content) {
         self.add(name, |random| write(make(random), random));
     }
 
@@ -196,10 +206,17 @@ impl Cases {
         }
     }
 
-    /// A table as a table and as an image.
+    /// A table as a table and as an image of each version.
     fn both(&mut self, name: &str, make: impl Fn(&mut Random) -> Table) {
+        let content = |random: &mut Random, version| {
+            let table = make(random);
+            graphs::content(random, version, table)
+        };
         self.table(name, &make);
-        self.stream(name, |random| image::of_table(&make(random)));
+        self.written(name, |random| content(random, Version::Two));
+        for version in VERSIONS {
+            self.stream(&format!("{name}, {version}"), |random| content(random, version).image());
+        }
     }
 
     // ---- the makers
@@ -252,30 +269,62 @@ impl Cases {
 
     /// Each damage of a table alone, with each other one, and several together.
     fn damaged_tables(&mut self) {
-        for chosen in damages::choices(OF_TABLE.len(), self.seed) {
+        for chosen in damages::choices(&damages::of_tables(), self.seed) {
             self.table(&damages::names(&chosen), |random| damages::damaged_table(random, &chosen));
         }
+        for chosen in damages::choices(&damages::of_tables_with_lengths(), self.seed) {
+            self.written(&damages::names(&chosen), |random| {
+                damages::damaged_content(random, Version::Two, &chosen)
+            });
+        }
     }
 
-    /// The same for images, which are damaged by their table or after it was laid out.
+    /// The same for images, which are damaged by table or lengths or after these were laid out.
     fn damaged_images(&mut self) {
-        for chosen in damages::choices(OF_TABLE.len() + OF_IMAGE.len(), self.seed) {
-            self.stream(&damages::names(&chosen), |random| damages::damaged_image(random, &chosen));
+        for version in VERSIONS {
+            for chosen in damages::choices(&damages::of_images(version), self.seed) {
+                let name = format!("{version}, {}", damages::names(&chosen));
+                self.stream(&name, |random| damages::damaged_image(random, version, &chosen));
+            }
         }
     }
 
-    /// Graph J's image: each beginning of it, some bytes more, and each of its bytes changed.
-    fn j_cut_and_changed(&mut self) {
-        let j = image::of_table(&graphs::j());
-        for length in 0..j.len() + 5 {
-            self.stream(&format!("J with {length} bytes"), |_| resized(j.clone(), length));
+    /// Tables with which nothing is wrong but one length: the first, the last or any.
+    fn lengths_of_0(&mut self) {
+        let places: [(&str, fn(&mut Random, usize) -> usize); 3] =
+            [("first", |_, _| 0), ("last", |_, n| n - 1), ("any", |random, n| random.place(n))];
+        for (words, place) in places {
+            let content = |random: &mut Random| {
+                let table = graphs::to_damage(random);
+                let mut content = graphs::content(random, Version::Two, table);
+                let lengths = content.lengths.as_mut().unwrap();
+                let place = place(random, lengths.len());
+                lengths[place] = 0;
+                content
+            };
+            for _ in 0..25 {
+                let name = format!("{words} length 0 alone");
+                self.written(&name, content);
+                self.stream(&name, |random| content(random).image());
+            }
         }
-        for place in 0..j.len() {
-            for change in [1, 128, 255] {
-                let mut changed = j.clone();
-                changed[place] ^= change;
-                let name = format!("J, byte {place} changed by {change}");
-                self.stream(&name, |_| changed.clone());
+    }
+
+    /// Graph J's images: each beginning of them, some bytes more, and each of their bytes changed.
+    fn j_cut_and_changed(&mut self) {
+        for version in VERSIONS {
+            let j = graphs::image(&mut self.next_random(), version, &graphs::j());
+            for length in 0..j.len() + 5 {
+                let name = format!("J, {version}, with {length} bytes");
+                self.stream(&name, |_| resized(j.clone(), length));
+            }
+            for place in 0..j.len() {
+                for change in [1, 128, 255] {
+                    let mut changed = j.clone();
+                    changed[place] ^= change;
+                    let name = format!("J, {version}, byte {place} changed by {change}");
+                    self.stream(&name, |_| changed.clone());
+                }
             }
         }
     }
@@ -284,9 +333,12 @@ impl Cases {
     fn noise(&mut self) {
         for _ in 0..100 {
             self.stream("any bytes", noise);
-            self.stream("any bytes after a good mark and version", |random| {
-                [b"SBT\x01\x00".to_vec(), noise(random)].concat()
-            });
+            for version in VERSIONS {
+                self.stream(&format!("any bytes after a good mark and {version}"), |random| {
+                    let begin = [b"SBT", &version.number().to_le_bytes()[..]].concat();
+                    [begin, noise(random)].concat()
+                });
+            }
             self.both("a table of small numbers", small_numbers);
         }
     }
@@ -295,11 +347,11 @@ impl Cases {
 // ---- what the makers share
 
 /// Writing with room enough in most cases: the length, one byte less or more, or much more; or none.
-fn write(table: Table, random: &mut Random) -> Operation {
-    let length = image::of_table(&table).len();
+fn write(content: Content, random: &mut Random) -> Operation {
+    let length = content.image().len();
     let more = length + random.between(2, 100);
     let room = random.one_of(&[length, length, length, length + 1, more, length - 1, 0]);
-    Operation::Write { room: room.min(LONGEST_IMAGE), table }
+    Operation::Write { room: room.min(LONGEST_IMAGE), content }
 }
 
 /// The rooms with which an image is loaded, each once: those of each kind, and a drawn one, by what the
@@ -310,7 +362,8 @@ fn rooms(stream: &[u8], random: &mut Random) -> Vec<(&'static str, Room)> {
     let said = image::room_for(stream);
     let n = said.map(|said| said.counts).filter(|&n| n < 4_000).unwrap_or(5);
     let m = said.map(|said| said.targets).filter(|&m| m < 9_000).unwrap_or(5);
-    let drawn = ("any room", room(random, n, m));
+    let version = image::version_of(stream).unwrap_or(Version::One);
+    let drawn = ("any room", room(random, Room::of_version(version, n, m)));
     let mut rooms: Vec<(&str, Room)> = Vec::new();
     for (kind, room) in ROOMS.into_iter().filter_map(of_kind).chain([drawn]) {
         if rooms.iter().all(|&(_, other)| other != room) {
@@ -320,19 +373,20 @@ fn rooms(stream: &[u8], random: &mut Random) -> Vec<(&'static str, Room)> {
     rooms
 }
 
-/// Room for a table of n vertices and m edges: enough in most cases, or too little of one kind, or
-/// none.
-pub fn room(random: &mut Random, n: usize, m: usize) -> Room {
-    let mut room = Room::of(n, m);
-    match random.between(0, 9) {
+/// Room where so much is due: enough in most cases, or too little of one kind, or none.
+pub fn room(random: &mut Random, due: Room) -> Room {
+    let mut room = due;
+    match random.between(0, 10) {
         0 => room.starts -= 1,
-        1 => room.targets = m.saturating_sub(1),
-        2 => room.counts = n.saturating_sub(1),
-        3 => room = Room::NONE,
-        4 | 5 => {
+        1 => room.targets = room.targets.saturating_sub(1),
+        2 => room.counts = room.counts.saturating_sub(1),
+        3 => room.lengths = room.lengths.saturating_sub(1),
+        4 => room = Room::NONE,
+        5 | 6 => {
             room.starts += random.between(0, 9);
             room.targets += random.between(0, 9);
             room.counts += random.between(0, 9);
+            room.lengths += random.between(0, 9);
         }
         _ => {}
     }

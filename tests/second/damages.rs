@@ -1,11 +1,12 @@
-//! Ways to damage a table or an image. Each is made to break one of the rules, and several may follow on
-//! each other; what number the result earns is for table.rs and image.rs to say, not here.
+//! Ways to damage a table, its lengths or an image. Each is made to break one of the rules, and several
+//! may follow on each other; what number the result earns is for table.rs and image.rs to say, not here.
 
 use crate::graphs;
-use crate::image::{self, HEADER};
+use crate::image::{self, Content, HEADER};
 use crate::operations::LONGEST_STREAM;
 use crate::random::Random;
 use crate::table::{Table, LARGEST_SUM, MOST_EDGES, MOST_VERTICES};
+use crate::versions::Version;
 
 /// A kind of damage: what it is called, and what it does. It does nothing where it finds no place.
 pub struct Damage<T> {
@@ -19,7 +20,7 @@ const fn damage<T>(name: &'static str, apply: fn(&mut T, &mut Random)) -> Damage
 
 /// Those that make the whole table anew stand first, and the one that leaves no starts last, so that
 /// damages done in this order all leave their mark.
-pub const OF_TABLE: &[Damage<Table>] = &[
+const OF_TABLE: &[Damage<Table>] = &[
     damage("8,193 edges", |table, random| {
         *table = graphs::with(random, 100, MOST_EDGES + 1);
     }),
@@ -131,16 +132,41 @@ pub const OF_TABLE: &[Damage<Table>] = &[
     damage("no starts", |table, _| table.starts.clear()),
 ];
 
-/// Damage of the image itself, after its table has been laid out.
+/// Damage of lengths, after that of their table.
+const OF_LENGTHS: &[Damage<Vec<u16>>] = &[
+    damage("a length too many", |lengths, _| lengths.push(1)),
+    damage("a length too few", |lengths, _| {
+        lengths.pop();
+    }),
+    damage("no lengths", |lengths, _| lengths.clear()),
+    damage("4,096 lengths", |lengths, _| lengths.resize(4_096, 1)),
+    damage("first length 0", |lengths, _| set(lengths, End::First, 0)),
+    damage("an inner length 0", |lengths, random| set_inner(lengths, random, 0)),
+    damage("last length 0", |lengths, _| set(lengths, End::Last, 0)),
+    damage("every length 0", |lengths, _| lengths.fill(0)),
+];
+
+/// Damage of the image itself, after table and lengths have been laid out.
 pub const OF_IMAGE: &[Damage<Vec<u8>>] = &[
     damage("first byte of the mark lower case", |image, _| put(image, 0, b"s")),
     damage("second byte of the mark 0", |image, _| put(image, 1, &[0])),
     damage("third byte of the mark other", |image, _| put(image, 2, b"t")),
     damage("mark backwards", |image, _| put(image, 0, b"TBS")),
     damage("version 0", |image, _| put(image, 3, &[0, 0])),
+    damage("version 1", |image, _| put(image, 3, &[1, 0])),
     damage("version 2", |image, _| put(image, 3, &[2, 0])),
+    damage("version 3", |image, _| put(image, 3, &[3, 0])),
     damage("version 256", |image, _| put(image, 3, &[0, 1])),
     damage("version 257", |image, _| put(image, 3, &[1, 1])),
+    damage("version 258", |image, _| put(image, 3, &[2, 1])),
+    damage("version 512", |image, _| put(image, 3, &[0, 2])),
+    damage("lengths before counts", |image, _| {
+        let slices = image::room_for(image).filter(|room| room.image() == image.len());
+        if let Some(room) = slices {
+            let behind_targets = HEADER + 4 * room.starts + 4 * room.targets;
+            image[behind_targets..].rotate_right(2 * room.lengths);
+        }
+    }),
     damage("header says n = 2,049", |image, _| put(image, 5, &2_049u32.to_le_bytes())),
     damage("header says n = 4,294,967,295", |image, _| put(image, 5, &u32::MAX.to_le_bytes())),
     damage("header says another n", |image, random| {
@@ -174,24 +200,48 @@ pub const OF_IMAGE: &[Damage<Vec<u8>>] = &[
     damage("one byte shorter", |image, _| {
         image.pop();
     }),
+    damage("one length shorter", |image, _| image.truncate(image.len().saturating_sub(2))),
     damage("one count shorter", |image, _| image.truncate(image.len().saturating_sub(8))),
     damage("cut anywhere", |image, random| image.truncate(random.between(0, image.len()))),
     damage("cut after its header", |image, _| image.truncate(HEADER)),
     damage("cut within its header", |image, random| image.truncate(random.between(0, HEADER - 1))),
 ];
 
-// ---- damages together: first come those of tables, then those of images
+// ---- damages together, by their numbers: first come those of tables, then those of lengths, then those
+// of images
 
-/// Each one of so many, each two, and some hundred choices of three to five; each in rising order.
-pub fn choices(all: usize, seed: u64) -> Vec<Vec<usize>> {
+const FIRST_OF_LENGTHS: usize = OF_TABLE.len();
+const FIRST_OF_IMAGE: usize = FIRST_OF_LENGTHS + OF_LENGTHS.len();
+
+/// The damages that tables can have, and those that tables with lengths can.
+pub fn of_tables() -> Vec<usize> {
+    (0..FIRST_OF_LENGTHS).collect()
+}
+
+pub fn of_tables_with_lengths() -> Vec<usize> {
+    (0..FIRST_OF_IMAGE).collect()
+}
+
+/// The damages that images of a version can have.
+pub fn of_images(version: Version) -> Vec<usize> {
+    let of_image = FIRST_OF_IMAGE..FIRST_OF_IMAGE + OF_IMAGE.len();
+    match version {
+        Version::One => of_tables().into_iter().chain(of_image).collect(),
+        Version::Two => of_tables_with_lengths().into_iter().chain(of_image).collect(),
+    }
+}
+
+/// Each one of these, each two, and some hundred choices of three to five; each in rising order.
+pub fn choices(of: &[usize], seed: u64) -> Vec<Vec<usize>> {
+    let all = of.len();
     let mut choices = Vec::new();
     for one in 0..all {
-        choices.push(vec![one]);
-        choices.extend((one + 1..all).map(|other| vec![one, other]));
+        choices.push(vec![of[one]]);
+        choices.extend((one + 1..all).map(|other| vec![of[one], of[other]]));
     }
     let random = &mut Random::of_case(seed, all);
     for _ in 0..200 {
-        let mut choice: Vec<usize> = (0..random.between(3, 5)).map(|_| random.place(all)).collect();
+        let mut choice: Vec<usize> = (0..random.between(3, 5)).map(|_| random.one_of(of)).collect();
         choice.sort();
         choices.push(choice);
     }
@@ -200,26 +250,38 @@ pub fn choices(all: usize, seed: u64) -> Vec<Vec<usize>> {
 
 /// What was chosen, in words.
 pub fn names(damages: &[usize]) -> String {
-    let name = |&damage: &usize| match damage.checked_sub(OF_TABLE.len()) {
-        None => OF_TABLE[damage].name,
-        Some(of_image) => OF_IMAGE[of_image].name,
-    };
-    damages.iter().map(name).collect::<Vec<_>>().join("; ")
+    let of_table = OF_TABLE.iter().map(|damage| damage.name);
+    let of_lengths = OF_LENGTHS.iter().map(|damage| damage.name);
+    let of_image = OF_IMAGE.iter().map(|damage| damage.name);
+    let all: Vec<&str> = of_table.chain(of_lengths).chain(of_image).collect();
+    damages.iter().map(|&damage| all[damage]).collect::<Vec<_>>().join("; ")
+}
+
+/// Does those of the damages that are of one kind, whose first number is this.
+fn apply<T>(damages: &[usize], kind: &[Damage<T>], first: usize, to: &mut T, random: &mut Random) {
+    let of_kind = damages.iter().filter_map(|damage| kind.get(damage.checked_sub(first)?));
+    of_kind.for_each(|damage| (damage.apply)(to, random));
 }
 
 pub fn damaged_table(random: &mut Random, damages: &[usize]) -> Table {
     let mut table = graphs::to_damage(random);
-    for &damage in damages.iter().filter(|&&damage| damage < OF_TABLE.len()) {
-        (OF_TABLE[damage].apply)(&mut table, random);
-    }
+    apply(damages, OF_TABLE, 0, &mut table, random);
     table
 }
 
-pub fn damaged_image(random: &mut Random, damages: &[usize]) -> Vec<u8> {
-    let mut image = image::of_table(&damaged_table(random, damages));
-    for &damage in damages.iter().filter(|&&damage| damage >= OF_TABLE.len()) {
-        (OF_IMAGE[damage - OF_TABLE.len()].apply)(&mut image, random);
+/// A damaged table as an image of a version is to hold it.
+pub fn damaged_content(random: &mut Random, version: Version, damages: &[usize]) -> Content {
+    let table = damaged_table(random, damages);
+    let mut content = graphs::content(random, version, table);
+    if let Some(lengths) = &mut content.lengths {
+        apply(damages, OF_LENGTHS, FIRST_OF_LENGTHS, lengths, random);
     }
+    content
+}
+
+pub fn damaged_image(random: &mut Random, version: Version, damages: &[usize]) -> Vec<u8> {
+    let mut image = damaged_content(random, version, damages).image();
+    apply(damages, OF_IMAGE, FIRST_OF_IMAGE, &mut image, random);
     image.truncate(LONGEST_STREAM);
     image
 }
@@ -254,10 +316,10 @@ fn set_any<T>(slice: &mut [T], random: &mut Random, value: T) {
     }
 }
 
-/// A start that is neither the first nor the last.
-fn set_inner(starts: &mut [u32], random: &mut Random, start: u32) {
-    if let [_, inner @ .., _] = starts {
-        set_any(inner, random, start);
+/// At a place that is neither the first nor the last.
+fn set_inner<T>(slice: &mut [T], random: &mut Random, value: T) {
+    if let [_, inner @ .., _] = slice {
+        set_any(inner, random, value);
     }
 }
 

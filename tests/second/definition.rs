@@ -5,6 +5,7 @@
 use crate::sharing;
 use crate::superbubbles::{Superbubble, Way};
 use crate::table::Table;
+use crate::versions::Version;
 use std::cmp::Reverse;
 
 pub const WAY: Way = Way { superbubbles, judge, kept, share: sharing::dealt, has_cycle };
@@ -82,31 +83,49 @@ fn superbubbles(table: &Table) -> Vec<Superbubble> {
     pairs.filter_map(|(s, t)| judge(table, s, t)).collect()
 }
 
-/// Of all paths that with the largest sum over its inner vertices; of equal ones that with the smaller
-/// vertex at the first place where they differ.
-fn kept(table: &Table, superbubble: &Superbubble) -> Vec<usize> {
-    let sum = |path: &[usize]| -> u64 {
-        path[1..path.len() - 1].iter().map(|&vertex| table.counts[vertex]).sum()
-    };
+/// Of all paths that which is worth most; of equal ones that with the smaller vertex at the first place
+/// where they differ.
+pub fn kept(version: Version, table: &Table, superbubble: &Superbubble) -> Vec<usize> {
+    let paths = paths(table, superbubble, usize::MAX).into_iter();
+    paths.min_by_key(|path| (Reverse(worth(version, table, path)), path.clone())).unwrap()
+}
+
+/// What a path is worth: the sum over its inner vertices, or the smallest of their counts. The bare edge
+/// is worth 0, or less than anything.
+pub fn worth(version: Version, table: &Table, path: &[usize]) -> Option<u64> {
+    let counts = path[1..path.len() - 1].iter().map(|&vertex| table.counts[vertex]);
+    match version {
+        Version::One => Some(counts.sum()),
+        Version::Two => counts.min(),
+    }
+}
+
+/// Every path from the entrance to the exit; where there are more than so many, one more than these.
+pub fn paths(table: &Table, superbubble: &Superbubble, most: usize) -> Vec<Vec<usize>> {
     let mut paths = Vec::new();
-    append_paths(table, superbubble, vec![superbubble.entrance], &mut paths);
-    paths.into_iter().min_by_key(|path| (Reverse(sum(path)), path.clone())).unwrap()
+    append_paths(table, superbubble, &mut vec![superbubble.entrance], most, &mut paths);
+    paths
 }
 
 /// Appends every path to the exit that begins with these vertices.
 fn append_paths(
     table: &Table,
     within: &Superbubble,
-    begun: Vec<usize>,
+    begun: &mut Vec<usize>,
+    most: usize,
     paths: &mut Vec<Vec<usize>>,
 ) {
     let last = *begun.last().unwrap();
     if last == within.exit {
-        paths.push(begun);
+        paths.push(begun.clone());
         return;
     }
     for &next in table.row(last) {
-        append_paths(table, within, [&begun[..], &[next as usize]].concat(), paths);
+        if paths.len() <= most {
+            begun.push(next as usize);
+            append_paths(table, within, begun, most, paths);
+            begun.pop();
+        }
     }
 }
 

@@ -1,8 +1,8 @@
-//! The examples: the twelve graphs A to L of the rules and the worked fold of a shared arm as images, one
-//! file each.
+//! The examples: the twelve graphs A to L of the rules and the worked folds of a shared arm and by the
+//! weakest as images, one file each. The last is of version 2, the others of version 1.
 
 use crate::count::Fault;
-use crate::graphs::{Graph, SHARED, TWELVE};
+use crate::graphs::{LENGTHS_OF_WEAKEST, SHARED, TWELVE, WEAKEST};
 use crate::image;
 use crate::runs::ProgramRun;
 use crate::sheet;
@@ -10,21 +10,17 @@ use std::fs;
 use std::io;
 use std::path::Path;
 
-fn all() -> Vec<Graph> {
-    let mut all = TWELVE.to_vec();
-    all.push(SHARED);
-    all
-}
-
-fn file_name(graph: &Graph) -> String {
-    format!("{}.sbt", graph.name)
+/// The name of each file, and the image that it has.
+fn all() -> Vec<(String, Vec<u8>)> {
+    let of_one = TWELVE.iter().chain([&SHARED]);
+    let mut all: Vec<(&str, Vec<u8>)> =
+        of_one.map(|graph| (graph.name, image::of_table(&graph.table()))).collect();
+    all.push((WEAKEST.name, image::with_lengths(&WEAKEST.table(), &LENGTHS_OF_WEAKEST)));
+    all.into_iter().map(|(name, image)| (format!("{name}.sbt"), image)).collect()
 }
 
 pub fn write(folder: &Path) -> io::Result<()> {
-    for graph in all() {
-        fs::write(folder.join(file_name(&graph)), image::of_table(&graph.table()))?;
-    }
-    Ok(())
+    all().into_iter().try_for_each(|(name, image)| fs::write(folder.join(name), image))
 }
 
 /// Holds the folder `examples` to what `write` would write, and the sheet to the example that it shows:
@@ -33,10 +29,10 @@ pub fn check() -> Vec<(String, Fault)> {
     let folder = Path::new("examples");
     let mut checks = Vec::new();
     let all = all();
-    for graph in &all {
-        let path = folder.join(file_name(graph));
+    for (name, due) in &all {
+        let path = folder.join(name);
         let fault = match fs::read(&path) {
-            Ok(image) if image == image::of_table(&graph.table()) => None,
+            Ok(image) if image == *due => None,
             Ok(_) => Some("not the image that the second program makes".to_string()),
             Err(error) => Some(error.to_string()),
         };

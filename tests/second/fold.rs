@@ -1,11 +1,12 @@
-//! The fold of the rules (docs/RULES.md, Fold), over the table handed in: its candidates, its kept
-//! paths, its counts.
+//! The fold of the rules (docs/RULES.md, Fold) in both versions, over the table handed in: its
+//! candidates, its kept paths, its counts.
 
 use crate::graphs::{self, Edge};
 use crate::parts::Part;
 use crate::sharing::Share;
 use crate::superbubbles::{candidates, Superbubble, Way};
 use crate::table::Table;
+use crate::versions::Version;
 use std::collections::BTreeSet;
 
 /// What a fold gives.
@@ -27,9 +28,9 @@ impl Folded {
 
 /// A candidate that is folded.
 pub struct Chosen {
-    superbubble: Superbubble,
+    pub superbubble: Superbubble,
     /// The path that is kept, from the entrance to the exit.
-    kept: Vec<usize>,
+    pub kept: Vec<usize>,
     /// The interior vertices that are not on it.
     dropped: Vec<usize>,
     /// The sum of their counts.
@@ -37,15 +38,15 @@ pub struct Chosen {
 }
 
 impl Chosen {
-    fn of(way: &Way, table: &Table, superbubble: Superbubble) -> Chosen {
-        let kept = (way.kept)(table, &superbubble);
+    fn of(way: &Way, version: Version, table: &Table, superbubble: Superbubble) -> Chosen {
+        let kept = (way.kept)(version, table, &superbubble);
         let on_path: BTreeSet<usize> = kept.iter().copied().collect();
         let dropped: Vec<usize> = superbubble.all.difference(&on_path).copied().collect();
         let reads = dropped.iter().map(|&vertex| table.counts[vertex]).sum();
         let chosen = Chosen { superbubble, kept, dropped, reads };
         assert!(
-            !chosen.inner().is_empty() || reads == 0,
-            "a kept bare edge means that every dropped count is 0"
+            !chosen.inner().is_empty() || (version == Version::One && reads == 0),
+            "a kept bare edge means version 1, and that every dropped count is 0"
         );
         chosen
     }
@@ -63,9 +64,9 @@ impl Chosen {
     }
 }
 
-/// Folds a well-formed table without a cycle.
-pub fn fold(way: &Way, table: &Table, budget: u32) -> Folded {
-    let chosen = chosen(way, table, budget);
+/// Folds a well-formed table without a cycle by the fold of a version.
+pub fn fold(way: &Way, version: Version, table: &Table, budget: u32) -> Folded {
+    let chosen = chosen(way, version, table, budget);
     let mut edges = table.edges();
     chosen.iter().for_each(|one| one.remove_from(&mut edges));
     let table = graphs::of_edges(&edges, counts(table, &chosen, way.share));
@@ -74,9 +75,9 @@ pub fn fold(way: &Way, table: &Table, budget: u32) -> Folded {
 }
 
 /// The candidates that are folded.
-pub fn chosen(way: &Way, table: &Table, budget: u32) -> Vec<Chosen> {
+pub fn chosen(way: &Way, version: Version, table: &Table, budget: u32) -> Vec<Chosen> {
     let candidates = candidates(way, table).into_iter().take(budget as usize);
-    candidates.map(|superbubble| Chosen::of(way, table, superbubble)).collect()
+    candidates.map(|superbubble| Chosen::of(way, version, table, superbubble)).collect()
 }
 
 /// The counts after a fold of these, where dropped reads are shared by this rule. A kept bare edge takes

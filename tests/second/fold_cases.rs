@@ -1,10 +1,10 @@
-//! The cases for fold: random tables without a cycle, with counts of which many are 0 or equal,
-//! numbered at random; tables with cycles; damaged ones; large ones; for the cycle test every small
-//! graph, deep paths, long rows and self-loops, each with a cycle and without one; and tables to be
-//! folded in turn.
+//! The cases for the folds of both versions: random tables without a cycle, with counts of which many
+//! are 0 or equal, numbered at random; tables with cycles; damaged ones; large ones; for the cycle test
+//! every small graph, deep paths, long rows and self-loops, each with a cycle and without one; and tables
+//! to be folded in turn.
 
 use crate::cases::{self, Cases};
-use crate::damages::{self, OF_TABLE};
+use crate::damages;
 use crate::graphs::{self, Edge};
 use crate::image::Room;
 use crate::operations::Operation;
@@ -15,58 +15,64 @@ use crate::sharing_cases;
 use crate::superbubbles;
 use crate::table::Table;
 use crate::turns::Turns;
+use crate::versions::Version;
 
 impl Cases {
-    pub fn folds(&mut self) {
-        for _ in 0..2_500 {
-            self.fold("any graph without a cycle", |random| acyclic_small(random).table(random));
-        }
-        for _ in 0..8_500 {
-            let make = |random: &mut Random| bubbly_small(random).table(random);
-            self.fold("a small graph rich in superbubbles", make);
-        }
-        for _ in 0..400 {
-            self.fold("a graph rich in superbubbles", |random| bubbly(random).table(random));
-        }
-        for _ in 0..600 {
-            self.fold("any graph", graphs::any);
-            self.fold("a small graph, perhaps with a cycle", |random| {
+    pub fn folds(&mut self, version: Version) {
+        let kinds: [(usize, &str, Make); 4] = [
+            (2_500, "any graph without a cycle", acyclic_small),
+            (8_500, "a small graph rich in superbubbles", bubbly_small),
+            (400, "a graph rich in superbubbles", bubbly),
+            (600, "a small graph, perhaps with a cycle", |random| {
                 let n = random.between(4, 10);
-                shapes::bubbly(random, n).table(random)
-            });
-        }
-        for _ in 0..6 {
-            for (name, make) in LARGE {
-                self.fold(name, |random| make(random).table(random));
+                shapes::bubbly(random, n)
+            }),
+        ];
+        let large = LARGE.map(|(name, make)| (6, name, make));
+        for (many, name, make) in kinds.into_iter().chain(large) {
+            for _ in 0..many {
+                self.fold(version, name, |random| counted(version, random, make));
             }
         }
-        for chosen in damages::choices(OF_TABLE.len(), self.seed) {
-            self.fold(&damages::names(&chosen), |random| damages::damaged_table(random, &chosen));
+        for _ in 0..600 {
+            self.fold(version, "any graph", graphs::any);
+        }
+        for chosen in damages::choices(&damages::of_tables(), self.seed) {
+            self.fold(version, &damages::names(&chosen), |random| {
+                damages::damaged_table(random, &chosen)
+            });
         }
     }
 
-    fn fold(&mut self, name: &str, make: impl Fn(&mut Random) -> Table) {
+    fn fold(&mut self, version: Version, name: &str, make: impl Fn(&mut Random) -> Table) {
         self.add(name, |random| {
             let table = make(random);
             let n = table.starts.len().saturating_sub(1);
             let mut room = Room::of(n, table.targets.len());
-            if n < 4_000 && random.between(0, 5) == 0 {
-                room = cases::room(random, n, table.targets.len());
+            let is_drawn = !table.faults().is_empty() || random.between(0, 5) == 0;
+            if n < 4_000 && is_drawn {
+                room = Room { lengths: 0, ..cases::room(random, room) };
             }
-            Operation::Fold { budget: budget(random), room, table }
+            Operation::Fold { version, budget: budget(random), room, table }
         });
     }
 
-    /// Tables for the cycle test.
-    pub fn cycles(&mut self) {
-        for n in 0..=4 {
+    /// Tables for the cycle test. Most graphs of four vertices have a cycle, for which the version does
+    /// not matter.
+    pub fn cycles(&mut self, version: Version) {
+        let most = match version {
+            Version::One => 4,
+            Version::Two => 3,
+        };
+        for n in 0..=most {
             for shape in shapes::every(n) {
-                self.fold_exactly("every graph of few vertices", |random| shape.table(random));
+                let name = "every graph of few vertices";
+                self.fold_exactly(version, name, |random| shape.table(random));
             }
         }
-        self.deep_paths();
-        self.long_rows();
-        self.self_loops();
+        self.deep_paths(version);
+        self.long_rows(version);
+        self.self_loops(version);
         let to_close: [(usize, &str, Make); 4] = [
             (150, "any graph without a cycle", acyclic_small),
             (150, "a small graph rich in superbubbles", bubbly_small),
@@ -75,16 +81,17 @@ impl Cases {
         ];
         for (many, name, make) in to_close {
             for _ in 0..many {
-                self.fold_exactly(&format!("{name}, and an edge that closes a cycle"), |random| {
+                let name = format!("{name}, and an edge that closes a cycle");
+                self.fold_exactly(version, &name, |random| {
                     make(random).closed(random).table(random)
                 });
-                self.begins(CYCLE);
+                self.begins_fold(version, CYCLE);
             }
         }
     }
 
     /// Paths of many vertices, with a cycle at their end, at their beginning, between and nowhere.
-    fn deep_paths(&mut self) {
+    fn deep_paths(&mut self, version: Version) {
         // shorter ones are among the graphs of few vertices
         for n in [5, 255, 256, 257, 1_023, 1_024, 2_048] {
             let (last, middle) = (n - 1, n / 2);
@@ -93,89 +100,143 @@ impl Cases {
             let between = [(middle, middle - 1), (middle, middle), (last - 1, 1)];
             let closing = [&at_the_end[..], &at_the_beginning, &between].concat();
             let others = [(0, last), (last - 2, last)];
-            self.with_one_more(&format!("a chain of {n}"), shapes::chain(n), &closing, &others);
+            self.with_one_more(
+                version,
+                &format!("a chain of {n}"),
+                shapes::chain(n),
+                &closing,
+                &others,
+            );
         }
         // a row is left for a deep path, and gone on with afterwards
         let closing = [(1_024, 0), (1_025, 0), (2_047, 0), (1_024, 1_024)];
-        self.with_one_more("a comb of 2,048", shapes::comb(2_048), &closing, &[(1_024, 1)]);
+        self.with_one_more(
+            version,
+            "a comb of 2,048",
+            shapes::comb(2_048),
+            &closing,
+            &[(1_024, 1)],
+        );
         let late = [(TOP, 0), (TOP, TOP), (TOP - 1, TOP), (TOP - 100, TOP - 1)];
         let closing = [&late[..], &[(BOTTOM, TOP), (BOTTOM, BOTTOM)]].concat();
         let others = [(0, BOTTOM), (TOP, BOTTOM)];
-        self.with_one_more("a backbone", shapes::backbone(), &closing, &others);
+        self.with_one_more(version, "a backbone", shapes::backbone(), &closing, &others);
         // what is done is met again, many times
         let closing = [(2_044, 0), (2_044, 2_044), (2_044, 2_045), (1, 0), (1, 2)];
         let others = [(2, 3), (0, 2_044)];
-        self.with_one_more("682 diamonds", shapes::diamonds(682), &closing, &others);
+        self.with_one_more(version, "682 diamonds", shapes::diamonds(682), &closing, &others);
         let closing = [(2_047, 0), (2_047, 2_046), (2_047, 2_047), (1, 0), (1_024, 1_020)];
         let band = shapes::band(2_048, 8_191);
-        self.with_one_more("a band of 2,048 with 8,191 edges", band, &closing, &[(0, 2_047)]);
+        self.with_one_more(
+            version,
+            "a band of 2,048 with 8,191 edges",
+            band,
+            &closing,
+            &[(0, 2_047)],
+        );
     }
 
     /// Rows of many targets, of which the first, the last, one between or none leads to a cycle.
-    fn long_rows(&mut self) {
+    fn long_rows(&mut self, version: Version) {
         let closing = [(1, 0), (1_024, 0), (2_047, 0), (0, 0), (2_047, 2_047)];
         let [one, four] = [1, 4].map(|rows| shapes::wide(2_048, rows));
-        self.with_one_more("a row of 2,047", one.clone(), &closing, &[(1, 2_047), (2_047, 1)]);
-        self.with_one_more("four rows of 2,044 or more", four, &closing, &[(4, 2_047), (2_047, 4)]);
+        self.with_one_more(
+            version,
+            "a row of 2,047",
+            one.clone(),
+            &closing,
+            &[(1, 2_047), (2_047, 1)],
+        );
+        self.with_one_more(
+            version,
+            "four rows of 2,044 or more",
+            four,
+            &closing,
+            &[(4, 2_047), (2_047, 4)],
+        );
         let closing = [(0, 1), (0, 1_024), (0, 2_047), (0, 0)];
         let turned_round = shapes::turned_round(one);
-        self.with_one_more("a row of 2,047, turned round", turned_round, &closing, &[(2_047, 1)]);
+        self.with_one_more(
+            version,
+            "a row of 2,047, turned round",
+            turned_round,
+            &closing,
+            &[(2_047, 1)],
+        );
         let closing = [(128, 0), (128, 127), (128, 128), (64, 63), (1, 0)];
         let band = shapes::band(129, 8_191);
-        self.with_one_more("a band of 129 with 8,191 edges", band, &closing, &[(0, 128)]);
+        self.with_one_more(version, "a band of 129 with 8,191 edges", band, &closing, &[(0, 128)]);
     }
 
     /// Self-loops at vertices that have no other edge.
-    fn self_loops(&mut self) {
+    fn self_loops(&mut self, version: Version) {
         let closing = [(0, 0), (1_000, 1_000), (2_047, 2_047)];
         let no_edges = Shape { n: 2_048, edges: vec![] };
-        self.with_one_more("2,048 vertices", no_edges, &closing, &[(2_047, 0)]);
+        self.with_one_more(version, "2,048 vertices", no_edges, &closing, &[(2_047, 0)]);
         let beside = Shape { n: 2_048, ..shapes::chain(2_047) };
         let name = "a vertex beside a chain of 2,047";
-        self.with_one_more(name, beside, &[(2_047, 2_047)], &[(2_047, 0)]);
+        self.with_one_more(version, name, beside, &[(2_047, 2_047)], &[(2_047, 0)]);
     }
 
     /// A graph without a cycle, as it is and with one edge more, which closes one or does not.
-    fn with_one_more(&mut self, name: &str, shape: Shape, closing: &[Edge], others: &[Edge]) {
-        self.numbered(name, &shape, NO_CYCLE);
+    fn with_one_more(
+        &mut self,
+        version: Version,
+        name: &str,
+        shape: Shape,
+        closing: &[Edge],
+        others: &[Edge],
+    ) {
+        self.numbered(version, name, &shape, NO_CYCLE);
         for (edges, begin) in [(closing, CYCLE), (others, NO_CYCLE)] {
             for &(from, to) in edges {
                 let name = format!("{name}, and {from}>{to}");
-                self.numbered(&name, &shape.and((from, to)), begin);
+                self.numbered(version, &name, &shape.and((from, to)), begin);
             }
         }
     }
 
     /// A graph for which it is known how the answer begins.
-    fn numbered(&mut self, name: &str, shape: &Shape, begin: &str) {
-        self.in_each_numbering(name, begin, |random, number| {
+    fn numbered(&mut self, version: Version, name: &str, shape: &Shape, begin: &str) {
+        self.in_each_numbering(version, name, begin, |random, number| {
             let table = shape.renamed(&number(shape.n, random)).table(random);
-            Operation::fold_exactly(budget(random), table)
+            Operation::fold_exactly(version, budget(random), table)
         });
     }
 
     /// A fold for each numbering, where it is known how the answer begins.
     pub fn in_each_numbering(
         &mut self,
+        version: Version,
         name: &str,
         begin: &str,
         make: impl Fn(&mut Random, Numbering) -> Operation,
     ) {
         for (numbered, number) in NUMBERINGS {
             self.add(format!("{name}, {numbered}"), |random| make(random, number));
-            self.begins(begin);
+            self.begins_fold(version, begin);
         }
     }
 
-    fn fold_exactly(&mut self, name: &str, make: impl Fn(&mut Random) -> Table) {
+    /// Says how the answer to the last case begins, behind the name of its fold.
+    pub fn begins_fold(&mut self, version: Version, begin: &str) {
+        self.begins(format!("{} {begin}", version.fold()));
+    }
+
+    pub fn fold_exactly(
+        &mut self,
+        version: Version,
+        name: &str,
+        make: impl Fn(&mut Random) -> Table,
+    ) {
         self.add(name, |random| {
             let table = make(random);
-            Operation::fold_exactly(budget(random), table)
+            Operation::fold_exactly(version, budget(random), table)
         });
     }
 
     /// Tables to be folded in turn.
-    pub fn folds_in_turn(&mut self) {
+    pub fn folds_in_turn(&mut self, version: Version) {
         let small: [(usize, &str, Make); 3] = [
             (100, "any graph without a cycle", acyclic_small),
             (500, "a small graph rich in superbubbles", bubbly_small),
@@ -183,18 +244,22 @@ impl Cases {
         ];
         let large = LARGE.map(|(name, make)| (1, name, make));
         for (many, name, make) in small.into_iter().chain(large) {
-            (0..many).for_each(|_| self.turns(name, |random| make(random).table(random)));
+            for _ in 0..many {
+                self.turns(version, name, |random| counted(version, random, make));
+            }
         }
         for _ in 0..300 {
-            self.turns("superbubbles in a row with long arms", sharing_cases::row_with_long_arms);
+            self.turns(version, "superbubbles in a row with long arms", |random| {
+                sharing_cases::row_with_long_arms(version, random)
+            });
         }
     }
 
-    fn turns(&mut self, name: &str, make: impl Fn(&mut Random) -> Table) {
+    fn turns(&mut self, version: Version, name: &str, make: impl Fn(&mut Random) -> Table) {
         let random = &mut self.next_random();
         let table = make(random);
         let budgets = budgets(random, &table);
-        self.add_turns(name, Turns { table, budgets, further: budget(random) });
+        self.add_turns(name, Turns { version, table, budgets, further: budget(random) });
     }
 }
 
@@ -209,9 +274,20 @@ const LARGE: [(&str, Make); 6] = [
     ("a fan", |random| shapes::fan(2_048).relabelled(random)),
 ];
 
-/// How the answer to a fold begins.
-const NO_CYCLE: &str = "fold 0 ";
-const CYCLE: &str = "fold 9 0 0 0\n";
+/// How the answer to a fold begins behind its name.
+const NO_CYCLE: &str = "0 ";
+const CYCLE: &str = "9 0 0 0\n";
+
+/// A table to be folded by the fold of a version: for version 2 mostly such that paths tie.
+fn counted(version: Version, random: &mut Random, make: Make) -> Table {
+    let shape = make(random);
+    let is_tied = version == Version::Two && random.between(0, 2) > 0;
+    if is_tied {
+        shape.tied(random)
+    } else {
+        shape.table(random)
+    }
+}
 
 fn acyclic_small(random: &mut Random) -> Shape {
     let n = random.between(3, 8);
@@ -232,7 +308,7 @@ fn bubbly_large(random: &mut Random) -> Shape {
     shapes::bubbly_acyclic(random, 2_048)
 }
 
-fn budget(random: &mut Random) -> u32 {
+pub fn budget(random: &mut Random) -> u32 {
     random.one_of(&[0, 1, 1, 1, 2, 2, 3, 10, 1_000, 65_536, 1 << 31, u32::MAX])
 }
 

@@ -1,7 +1,9 @@
-//! Well-formed tables: the twelve graphs A to L of the rules, and random ones.
+//! Well-formed tables: the twelve graphs A to L of the rules, and random ones; and lengths for them.
 
+use crate::image::Content;
 use crate::random::Random;
 use crate::table::{Table, LARGEST_SUM, MOST_EDGES, MOST_VERTICES};
+use crate::versions::Version;
 use std::collections::BTreeSet;
 
 pub type Edge = (usize, usize);
@@ -54,6 +56,15 @@ pub const TWELVE: [Graph; 12] = [
 /// The table of docs/RULES.md, Worked folds, A shared arm.
 pub const SHARED: Graph =
     graph("shared", &[(0, 1), (0, 3), (1, 2), (2, 4), (3, 4)], &[5, 4, 3, 3, 5], &[(0, 4), (1, 2)]);
+
+/// The table of docs/RULES.md, Worked folds, By the weakest, and the lengths that it has as an example.
+pub const WEAKEST: Graph = graph(
+    "weakest",
+    &[(0, 1), (0, 4), (1, 2), (1, 3), (2, 4), (3, 4)],
+    &[0, 1, 5, 9, 0],
+    &[(0, 4)],
+);
+pub const LENGTHS_OF_WEAKEST: [u16; 5] = [100, 200, 300, 400, 500];
 
 impl Graph {
     pub fn table(&self) -> Table {
@@ -127,12 +138,50 @@ pub fn to_damage(random: &mut Random) -> Table {
 /// Counts whose sum is allowed: all 0, small ones, large ones, or some that reach the largest sum.
 pub fn counts(random: &mut Random, n: usize) -> Vec<u64> {
     let most = random.one_of(&[0, 1, 100, LARGEST_SUM / n.max(1) as u64]);
-    let mut counts: Vec<u64> = (0..n).map(|_| random.any() % (most + 1)).collect();
-    if n > 0 && random.between(0, 3) == 0 {
+    let counts = (0..n).map(|_| random.any() % (most + 1)).collect();
+    now_and_then_filled(random, counts)
+}
+
+/// Counts as they are, or one of them such that they reach the largest sum.
+fn now_and_then_filled(random: &mut Random, mut counts: Vec<u64>) -> Vec<u64> {
+    if !counts.is_empty() && random.between(0, 3) == 0 {
         let others: u64 = counts.iter().skip(1).sum();
         counts[0] = LARGEST_SUM - others;
-        let place = random.place(n);
+        let place = random.place(counts.len());
         counts.swap(0, place);
     }
     counts
+}
+
+/// Counts by which many paths are worth the same: few numbers, all of one, or nothing but 0.
+pub fn tied_counts(random: &mut Random, n: usize) -> Vec<u64> {
+    let large = LARGEST_SUM / n.max(1) as u64;
+    // the last 32 bits of the second are 0
+    let large = [[0, large], [7, large >> 32 << 32]];
+    let few = [&[0, 1][..], &[0, 1, 2], &[1, 2], &[0, 7], &[3], &[0], &large[0], &large[1]];
+    let of = random.one_of(&few);
+    let counts = (0..n).map(|_| random.one_of(of)).collect();
+    now_and_then_filled(random, counts)
+}
+
+/// Lengths that are allowed, those among them at which a byte ends.
+pub fn lengths(random: &mut Random, n: usize) -> Vec<u16> {
+    let mut length = || match random.between(0, 2) {
+        0 => random.one_of(&[1, 255, 256, u16::MAX]),
+        1 => random.between(1, 9) as u16,
+        _ => random.between(1, u16::MAX as usize) as u16,
+    };
+    (0..n).map(|_| length()).collect()
+}
+
+/// A table as an image of a version is to hold it: in version 2 with random lengths.
+pub fn content(random: &mut Random, version: Version, table: Table) -> Content {
+    let n = table.vertices().unwrap_or(0);
+    let lengths = (version == Version::Two).then(|| lengths(random, n));
+    Content { table, lengths }
+}
+
+/// The same laid out.
+pub fn image(random: &mut Random, version: Version, table: &Table) -> Vec<u8> {
+    content(random, version, table.clone()).image()
 }

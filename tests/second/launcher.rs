@@ -91,11 +91,11 @@ impl Launcher<'_> {
     }
 
     fn statuses(&mut self, caller: &Caller) {
-        let example = |letter| fs::read(format!("examples/{letter}.sbt")).unwrap_or_default();
-        for letter in ["J", "E"] {
-            let _ = fs::write(caller.folder.join(letter), example(letter));
+        let example = |name| fs::read(format!("examples/{name}.sbt")).unwrap_or_default();
+        for name in ["J", "E", "weakest"] {
+            let _ = fs::write(caller.folder.join(name), example(name));
         }
-        let (j, none) = (&example("J")[..], &[][..]);
+        let (j, of_two, none) = (&example("J")[..], &example("weakest")[..], &[][..]);
         for (line, input, status, begin) in [
             ("look", j, 0, "table 7 8\n"),
             ("show", j, 0, "table 7 8\n"),
@@ -103,6 +103,11 @@ impl Launcher<'_> {
             ("judge 0 6", j, 0, "superbubble 7\n"),
             ("judge 6 0", j, 0, "no\n"),
             ("fold 1 J out", none, 0, "folded 1 left 0 edges 2\n"),
+            ("look", of_two, 0, "table 5 6 lengths\n"),
+            ("show", of_two, 0, "table 5 6 lengths\n0 0 100 1 4\n"),
+            ("list", of_two, 0, "superbubbles 1\n"),
+            ("judge 0 4", of_two, 0, "superbubble 5\n"),
+            ("fold 1 weakest out", none, 0, "folded 1 left 0 edges 3\n"),
             ("look", none, 1, "refused 10\n"),
             ("show", none, 1, "refused 10\n"),
             ("list", none, 1, "refused 10\n"),

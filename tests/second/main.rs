@@ -2,13 +2,15 @@
 //! the crates, to compare the Rattle programs with. It is run in the repository's root; `.ci/run`
 //! builds and runs it.
 //!
-//! - table.rs, image.rs: the rules and the numbers
-//! - superbubbles.rs, definition.rs, quick.rs: superbubbles in two ways
-//! - fold.rs, sharing.rs: the fold, and how it shares dropped reads
+//! - table.rs, versions.rs, image.rs: the rules and the numbers
+//! - superbubbles.rs, definition.rs, quick.rs: superbubbles and kept paths in two ways
+//! - fold.rs, sharing.rs, choosing.rs: the folds, how they share dropped reads, and wrong rules by which
+//!   they could choose a path
 //! - walk.rs: one more way to find a cycle, and what it meets
 //! - graphs.rs, shapes.rs, damages.rs: tables and images, good and bad
 //! - limits.rs, worked.rs: cases with answers written by hand
-//! - cases.rs, superbubble_cases.rs, fold_cases.rs, sharing_cases.rs, program_cases.rs: all that is asked
+//! - cases.rs, superbubble_cases.rs, fold_cases.rs, sharing_cases.rs, weakest_cases.rs,
+//!   program_cases.rs: all that is asked
 //! - operations.rs, answers.rs, runs.rs: how it is asked, and the answers that are due
 //! - turns.rs, in_a_row.rs: answers that are held to each other
 //! - parts.rs: questions and answers taken apart, and where two answers differ first
@@ -16,14 +18,16 @@
 //! - sheet.rs, messages.rs: the words that the programs say
 //! - launcher.rs, launcher/: the script `gohardim`
 //! - faults.rs, faults/: what may befall the programs, system call by system call
-//! - compare.rs, self_test.rs, coverage.rs, sharing_coverage.rs, examples.rs, count.rs: the comparison,
-//!   and the checks that need no program
+//! - compare.rs, self_test.rs, coverage.rs, sharing_coverage.rs, choosing_coverage.rs, examples.rs,
+//!   count.rs: the comparison, and the checks that need no program
 //! - again.rs: one case again, by its number
 
 mod again;
 mod answers;
 mod batch;
 mod cases;
+mod choosing;
+mod choosing_coverage;
 mod compare;
 mod count;
 mod coverage;
@@ -57,7 +61,9 @@ mod superbubble_cases;
 mod superbubbles;
 mod table;
 mod turns;
+mod versions;
 mod walk;
+mod weakest_cases;
 mod worked;
 
 use count::Count;
@@ -70,7 +76,8 @@ const USAGE: &str = "usage:
   second self-test [SEED]      try the second program alone, as `compare` does as well
   second case NUMBER [SEED]    run one case again, of any operation or program: what is asked, the
                                answer that is expected, the one that comes, and where they differ
-  second examples FOLDER       write the twelve graphs A to L and the shared arm as images
+  second examples FOLDER       write the twelve graphs A to L, the shared arm and the table that is
+                               folded by the weakest as images
 NUMBER is that of a case in the line of its failure. SEED is a number; 1 where there is none.";
 
 fn main() -> ExitCode {

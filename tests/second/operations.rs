@@ -4,15 +4,16 @@
 //! A question is one byte, the operation; the length of the body, 32 bits; and the body. All numbers
 //! are little-endian. What is asked of a table without its counts is handed none.
 
-use crate::image::{self, Room};
+use crate::image::{self, Content, Room};
 use crate::parts::Part;
 use crate::superbubbles;
 use crate::table::Table;
+use crate::versions::Version;
 
 /// The longest stream that a question has: the most that a program reads.
 pub const LONGEST_STREAM: usize = image::LARGEST + 1;
 /// The longest slices that a question has or asks for.
-pub const MOST_ROOM: Room = Room { starts: 4_096, targets: 16_384, counts: 4_096 };
+pub const MOST_ROOM: Room = Room { starts: 4_096, targets: 16_384, counts: 4_096, lengths: 4_096 };
 /// The longest slices that a question asks for to be listed into, and to be written into.
 pub const LONGEST_LIST: usize = 8_192;
 pub const LONGEST_IMAGE: usize = 65_536;
@@ -22,8 +23,8 @@ pub enum Operation {
     Show { stream: Vec<u8> },
     /// The numbers of a table, without its counts and with them.
     Check { table: Table },
-    /// Image writing into a slice of so many bytes.
-    Write { room: usize, table: Table },
+    /// Image writing into a slice of so many bytes, in the version that has what is handed over.
+    Write { room: usize, content: Content },
     /// A look at an image, and where it is accepted a load into slices that are just as long as the
     /// look says.
     Look { stream: Vec<u8> },
@@ -33,41 +34,42 @@ pub enum Operation {
     List { room: usize, table: Table },
     /// Judging one pair.
     Judge { pair: (u32, u32), table: Table },
-    /// Folding into slices of so many numbers.
-    Fold { budget: u32, room: Room, table: Table },
+    /// Folding by the fold of a version into slices of so many numbers.
+    Fold { version: Version, budget: u32, room: Room, table: Table },
 }
 
 use Operation::*;
 
 /// An operation's name, and the numbers other than 0 that it can give, in the order in which it does.
-pub const OPERATIONS: [(&str, &[u32]); 8] = [
-    ("show", &[10, 11, 1, 2, 12, 3, 4, 5, 7]),
+pub const OPERATIONS: [(&str, &[u32]); 10] = [
+    ("show", &[10, 11, 1, 2, 12, 3, 4, 5, 7, 20]),
     ("check", &[1, 2, 3, 4, 5, 6, 7]),
     ("write", &[1, 2, 3, 4, 5, 6, 7, 8]),
-    ("look", &[10, 11, 1, 2, 12, 3, 4, 5, 7]),
-    ("load", &[10, 11, 1, 2, 12, 3, 4, 5, 7, 8]),
+    ("write_lengths", &[1, 2, 3, 4, 5, 6, 7, 20, 8]),
+    ("look", &[10, 11, 1, 2, 12, 3, 4, 5, 7, 20]),
+    ("load", &[10, 11, 1, 2, 12, 3, 4, 5, 7, 20, 8]),
     ("list", &[1, 2, 3, 4, 5, 8]),
     ("judge", &[1, 2, 3, 4, 5, 13]),
     ("fold", &[1, 2, 3, 4, 5, 6, 7, 8, 9]),
+    ("fold_weakest", &[1, 2, 3, 4, 5, 6, 7, 8, 9]),
 ];
 
 impl Operation {
     /// A fold with exact room.
-    pub fn fold_exactly(budget: u32, table: Table) -> Operation {
-        let (n, m) = table.sizes();
-        Fold { budget, room: Room::of(n, m), table }
+    pub fn fold_exactly(version: Version, budget: u32, table: Table) -> Operation {
+        Fold { version, budget, room: Room::taken_by(&table), table }
     }
 
     pub fn name(&self) -> &'static str {
         match self {
             Show { .. } => "show",
             Check { .. } => "check",
-            Write { .. } => "write",
+            Write { content, .. } => content.version().write(),
             Look { .. } => "look",
             Load { .. } => "load",
             List { .. } => "list",
             Judge { .. } => "judge",
-            Fold { .. } => "fold",
+            Fold { version, .. } => version.fold(),
         }
     }
 
@@ -75,12 +77,16 @@ impl Operation {
     pub fn fits(&self) -> bool {
         match self {
             Show { stream } | Look { stream } => stream.len() <= LONGEST_STREAM,
-            Check { table } | Judge { table, .. } => lengths(table).is_within(MOST_ROOM),
-            Write { room, table } => *room <= LONGEST_IMAGE && lengths(table).is_within(MOST_ROOM),
+            Check { table } | Judge { table, .. } => Room::taken_by(table).is_within(MOST_ROOM),
+            Write { room, content } => {
+                *room <= LONGEST_IMAGE && content.room().is_within(MOST_ROOM)
+            }
             Load { room, stream } => room.is_within(MOST_ROOM) && stream.len() <= LONGEST_STREAM,
-            List { room, table } => *room <= LONGEST_LIST && lengths(table).is_within(MOST_ROOM),
+            List { room, table } => {
+                *room <= LONGEST_LIST && Room::taken_by(table).is_within(MOST_ROOM)
+            }
             Fold { room, table, .. } => {
-                room.is_within(MOST_ROOM) && lengths(table).is_within(MOST_ROOM)
+                room.is_within(MOST_ROOM) && Room::taken_by(table).is_within(MOST_ROOM)
             }
         }
     }
@@ -96,17 +102,22 @@ impl Operation {
                 append_lent(&mut body, table);
                 b't'
             }
-            Write { room, table } => {
+            Write { room, content } => {
                 append_number(&mut body, *room);
-                append_lent(&mut body, table);
-                b'w'
+                let slices = if content.lengths.is_some() { 4 } else { 3 };
+                append_lengths(&mut body, &content.room().numbers()[..slices]);
+                content.append_to(&mut body);
+                match content.version() {
+                    Version::One => b'w',
+                    Version::Two => b'x',
+                }
             }
             Look { stream } => {
                 body.extend(stream);
                 b'k'
             }
             Load { room, stream } => {
-                append_room(&mut body, *room);
+                append_lengths(&mut body, &room.numbers());
                 body.extend(stream);
                 b'd'
             }
@@ -120,11 +131,14 @@ impl Operation {
                 append_lent_without_counts(&mut body, table);
                 b'j'
             }
-            Fold { budget, room, table } => {
+            Fold { version, budget, room, table } => {
                 body.extend(budget.to_le_bytes());
-                append_room(&mut body, *room);
+                append_lengths(&mut body, &room.numbers()[..3]);
                 append_lent(&mut body, table);
-                b'f'
+                match version {
+                    Version::One => b'f',
+                    Version::Two => b'g',
+                }
             }
         };
         let mut question = vec![operation];
@@ -138,15 +152,16 @@ impl Operation {
         let (values, handed) = match self {
             Show { stream } | Look { stream } => (vec![], image::parts("the stream", stream)),
             Check { table } => (vec![], table.parts()),
-            Write { room, table } | List { room, table } => {
-                (vec![("room", room.to_string())], table.parts())
-            }
+            Write { room, content } => (vec![("room", room.to_string())], content.parts()),
+            List { room, table } => (vec![("room", room.to_string())], table.parts()),
             Load { room, stream } => {
-                (vec![("room", room.words())], image::parts("the stream", stream))
+                let room = image::words(&room.numbers());
+                (vec![("room", room)], image::parts("the stream", stream))
             }
             Judge { pair: (s, t), table } => (vec![("pair", format!("{s} {t}"))], table.parts()),
-            Fold { budget, room, table } => {
-                (vec![("budget", budget.to_string()), ("room", room.words())], table.parts())
+            Fold { budget, room, table, .. } => {
+                let room = image::words(&room.numbers()[..3]);
+                (vec![("budget", budget.to_string()), ("room", room)], table.parts())
             }
         };
         let values = values.into_iter().map(|(name, value)| Part::value(name, value));
@@ -159,10 +174,11 @@ impl Operation {
         match self {
             Show { stream } | Look { stream } => image::faults(stream),
             Check { table } => table.faults(),
-            Write { room, table } => {
-                let due = |n| image::length(n as u64, table.targets.len() as u64);
-                let room_is_below = table.vertices().is_some_and(|n| (*room as u64) < due(n));
-                with(table.faults(), 8, room_is_below)
+            Write { room, content } => {
+                let (version, m) = (content.version(), content.table.targets.len());
+                let due = |n| Room::of_version(version, n, m).image();
+                let room_is_below = content.table.vertices().is_some_and(|n| *room < due(n));
+                with(content.faults(), 8, room_is_below)
             }
             Load { room, stream } => image::faults_of_load(stream, *room),
             List { room, table } => {
@@ -195,31 +211,24 @@ fn with(mut faults: Vec<u32>, number: u32, holds: bool) -> Vec<u32> {
     faults
 }
 
-fn lengths(table: &Table) -> Room {
-    let (starts, targets, counts) = (table.starts.len(), table.targets.len(), table.counts.len());
-    Room { starts, targets, counts }
-}
-
 fn append_number(bytes: &mut Vec<u8>, number: usize) {
     bytes.extend((number as u32).to_le_bytes());
 }
 
-fn append_room(body: &mut Vec<u8>, room: Room) {
-    append_number(body, room.starts);
-    append_number(body, room.targets);
-    append_number(body, room.counts);
+/// The lengths of slices.
+fn append_lengths(body: &mut Vec<u8>, lengths: &[usize]) {
+    lengths.iter().for_each(|&length| append_number(body, length));
 }
 
 /// The three lengths, then the three slices.
 fn append_lent(body: &mut Vec<u8>, table: &Table) {
-    append_room(body, lengths(table));
+    append_lengths(body, &Room::taken_by(table).numbers()[..3]);
     image::append_table(body, table);
 }
 
 /// The lengths of starts and targets, then these two slices.
 fn append_lent_without_counts(body: &mut Vec<u8>, table: &Table) {
-    append_number(body, table.starts.len());
-    append_number(body, table.targets.len());
+    append_lengths(body, &Room::taken_by(table).numbers()[..2]);
     image::append_numbers(body, &table.starts);
     image::append_numbers(body, &table.targets);
 }

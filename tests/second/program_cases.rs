@@ -1,10 +1,10 @@
-//! Cases for which a program is run alone: its text and its words, streams in pieces and longer than it
-//! reads, and the files of `fold`.
+//! Cases for which a program is run alone, with images of both versions: its text and its words, streams
+//! in pieces and longer than it reads, and the files of `fold`.
 
 use crate::cases::{resized, Cases};
-use crate::damages::{self, OF_IMAGE, OF_TABLE};
+use crate::damages::{self, OF_IMAGE};
 use crate::faults::story::Step;
-use crate::graphs::{self, lettered, SHARED, TWELVE};
+use crate::graphs::{self, lettered, LENGTHS_OF_WEAKEST, SHARED, TWELVE, WEAKEST};
 use crate::image;
 use crate::messages::{
     of_fold, of_step, unread, words_of, IS_FOLDER, NO_FILE, NO_FOLDER, TOO_LONG,
@@ -14,17 +14,22 @@ use crate::random::Random;
 use crate::runs::{Due, Files, ProgramRun};
 use crate::shapes;
 use crate::sharing_cases;
+use crate::table::MOST_VERTICES;
+use crate::versions::{Version, VERSIONS};
 
 /// The longest word that the system hands to a program.
 const LONGEST_WORD: usize = 131_071;
 
 impl Cases {
     pub fn programs(&mut self) {
-        self.streams(ProgramRun::look);
-        self.streams(ProgramRun::show);
-        self.streams(ProgramRun::list);
+        for run in [ProgramRun::look, ProgramRun::show, ProgramRun::list] {
+            self.add_run("an empty stream", run(Vec::new()));
+            VERSIONS.into_iter().for_each(|version| self.streams(version, run));
+            self.refused_images(run);
+        }
         self.add_run("the example of the rules", ProgramRun::list(of_letter("J")));
         self.begins("superbubbles 2\n0 6\n1 4\n");
+        self.texts_of_weakest();
         for shape in [shapes::chain(2_048), shapes::ring(2_048), shapes::nests(20, 34)] {
             let table = shape.relabelled(&mut self.next_random()).counted(1);
             self.add_run("many superbubbles", ProgramRun::list(image::of_table(&table)));
@@ -34,46 +39,88 @@ impl Cases {
             self.add_run("a name for a stream", run);
         }
         self.judges();
+        self.judges_of_version_2();
         self.folded_files();
+        self.folded_files_of_version_2();
         self.files_left_alone();
     }
 
-    /// Streams of every kind for a program that takes nothing else.
-    fn streams(&mut self, run: fn(Vec<u8>) -> ProgramRun) {
-        let j = of_letter("J");
-        let largest = |random: &mut Random| image::of_table(&graphs::largest(random));
+    /// Streams of every kind, with images of a version, for a program that takes nothing else.
+    fn streams(&mut self, version: Version, run: fn(Vec<u8>) -> ProgramRun) {
+        let j = graphs::image(&mut self.next_random(), version, &graphs::j());
+        let largest = |random: &mut Random| {
+            let table = graphs::largest(random);
+            graphs::image(random, version, &table)
+        };
         for graph in &TWELVE {
-            self.add_run(graph.name, run(of_letter(graph.name)));
+            let stream = graphs::image(&mut self.next_random(), version, &graph.table());
+            self.add_run(format!("{}, {version}", graph.name), run(stream));
         }
-        self.add_run("an empty stream", run(Vec::new()));
         for piece in [1, 7, 13, 132] {
-            let name = format!("J in pieces of {piece}");
+            let name = format!("J, {version}, in pieces of {piece}");
             self.add_run(name, ProgramRun { piece, ..run(j.clone()) });
         }
-        for piece in [1_000, 4_096, 57_361] {
+        let whole = match version {
+            Version::One => image::LARGEST_OF_ONE,
+            Version::Two => image::LARGEST,
+        };
+        for piece in [1_000, 4_096, whole] {
             let stream = largest(&mut self.next_random());
-            let name = format!("the largest image in pieces of {piece}");
+            assert_eq!(stream.len(), whole);
+            let name = format!("the largest image, {version}, in pieces of {piece}");
             self.add_run(name, ProgramRun { piece, ..run(stream) });
         }
-        for length in [LONGEST_STREAM, LONGEST_STREAM + 1, 60_000, 65_536, 200_000, 1_000_000] {
-            let name = |what: &str| format!("{what}, with {length} bytes");
+        let lengths = [whole + 1, LONGEST_STREAM + 1, 65_536, 200_000, 1_000_000];
+        for length in lengths.into_iter().chain((version == Version::One).then_some(LONGEST_STREAM))
+        {
+            let name = |what: &str| format!("{what}, {version}, with {length} bytes");
             let stream = largest(&mut self.next_random());
             self.add_run(name("the largest image"), run(resized(stream, length)));
-            self.add_run(name("zeros"), run(vec![0; length]));
             self.add_run(name("J"), run(resized(j.clone(), length)));
+            if version == Version::One {
+                self.add_run(format!("zeros, {length} bytes"), run(vec![0; length]));
+            }
         }
         for damage in OF_IMAGE.iter().filter(|damage| damage.name.starts_with("header says")) {
             let mut stream = resized(j.clone(), 60_000);
             (damage.apply)(&mut stream, &mut self.next_random());
-            self.add_run(format!("J, {}, with 60,000 bytes", damage.name), run(stream));
+            self.add_run(format!("J, {version}, {}, with 60,000 bytes", damage.name), run(stream));
         }
         for _ in 0..10 {
-            let table = graphs::any(&mut self.next_random());
-            self.add_run("a well-formed table", run(image::of_table(&table)));
-            let stream = damaged_image(&mut self.next_random());
-            let name = "a damaged image in pieces of 50";
+            let random = &mut self.next_random();
+            let table = graphs::any(random);
+            let stream = graphs::image(random, version, &table);
+            self.add_run(format!("a well-formed table, {version}"), run(stream));
+            let stream = damaged_image(&mut self.next_random(), version);
+            let name = format!("a damaged image, {version}, in pieces of 50");
             self.add_run(name, ProgramRun { piece: 50, ..run(stream) });
         }
+    }
+
+    /// Images that are refused for their version or a length, to any program that takes nothing else.
+    fn refused_images(&mut self, run: fn(Vec<u8>) -> ProgramRun) {
+        for (name, stream, text) in refused_images() {
+            self.add_run(name, run(stream));
+            self.begins(text);
+        }
+    }
+
+    /// The worked fold By the weakest, looked at and shown in both versions.
+    fn texts_of_weakest(&mut self) {
+        let [of_one, of_two] = weakest();
+        let name = "by the weakest, version 1";
+        self.add_run(name, ProgramRun::look(of_one.clone()));
+        self.begins("table 5 6\n");
+        self.add_run(name, ProgramRun::show(of_one));
+        self.begins("table 5 6\n0 0 1 4\n1 1 2 3\n2 5 4\n3 9 4\n4 0\n");
+        let name = "by the weakest, version 2";
+        self.add_run(name, ProgramRun::look(of_two.clone()));
+        self.begins("table 5 6 lengths\n");
+        self.add_run(name, ProgramRun::show(of_two));
+        self.begins("table 5 6 lengths\n0 0 100 1 4\n1 1 200 2 3\n2 5 300 4\n3 9 400 4\n4 0 500\n");
+        let most = image::with_lengths(&shapes::ladder().counted(1), &[u16::MAX; MOST_VERTICES]);
+        self.add_run("the largest lengths", ProgramRun::show(most));
+        self.begins("table 2048 8192 lengths\n0 1 65535 1 2 3 4\n");
     }
 
     fn judges(&mut self) {
@@ -123,9 +170,12 @@ impl Cases {
             let run = ProgramRun::of_stream("judge", &words, of_letter("J"), Due::Usage);
             self.add_run(&name, run);
         }
-        for _ in 0..8 {
-            let stream = damaged_image(&mut self.next_random());
-            self.add_run("a damaged image", ProgramRun::judge("0", "5000000000", stream));
+        for version in VERSIONS {
+            for _ in 0..8 {
+                let stream = damaged_image(&mut self.next_random(), version);
+                let run = ProgramRun::judge("0", "5000000000", stream);
+                self.add_run(format!("a damaged image, {version}"), run);
+            }
         }
         for words in [
             &[][..],
@@ -141,6 +191,35 @@ impl Cases {
             let run = ProgramRun::of_stream("judge", words, of_letter("J"), Due::Usage);
             self.add_run("wrong words", run);
         }
+    }
+
+    fn judges_of_version_2(&mut self) {
+        let of_two = |random: &mut Random, letter| {
+            graphs::image(random, Version::Two, &lettered(letter).table())
+        };
+        for (letter, s, t, text) in [
+            ("J", "0", "6", "superbubble 7\n"),
+            ("J", "1", "4", "superbubble 4\n"),
+            ("J", "6", "0", "no\n"),
+            ("H", "3", "0", "superbubble 2\n"),
+            ("J", "0", "7", "refused 13\n"),
+            ("A", "0", "0", "refused 13\n"),
+        ] {
+            let stream = of_two(&mut self.next_random(), letter);
+            self.add_run(format!("{letter}, version 2"), ProgramRun::judge(s, t, stream));
+            self.begins(text);
+        }
+        for (name, stream, text) in refused_images() {
+            // the image is refused before the vertex is
+            self.add_run(name, ProgramRun::judge("0", "7", stream));
+            self.begins(text);
+        }
+        let largest = largest_of_two(1);
+        self.add_run("the largest image of all", ProgramRun::judge("0", "2041", largest.clone()));
+        self.begins("superbubble 2042\n");
+        let longer = resized(largest, LONGEST_STREAM);
+        self.add_run("the largest image of all and a byte", ProgramRun::judge("0", "1", longer));
+        self.begins("refused 12\n");
     }
 
     // ---- the files of fold
@@ -169,15 +248,12 @@ impl Cases {
             ProgramRun::fold(1, "out.sbt", "k.sbt", once),
         );
         self.begins("folded 1 left 0 edges 4\n");
-        let old =
-            |stream: Vec<u8>| [file("in.sbt", stream), file("out.sbt", vec![1, 2, 3])].concat();
-        let over = |stream| ProgramRun::fold(1, "in.sbt", "out.sbt", old(stream));
-        self.add_run("J over an old file", over(of_letter("J")));
-        self.add_run("F beside an old file", over(of_letter("F")));
-        self.add_run("an empty file beside an old file", over(Vec::new()));
+        self.add_run("J over an old file", over_old(of_letter("J")));
+        self.add_run("F beside an old file", over_old(of_letter("F")));
+        self.add_run("an empty file beside an old file", over_old(Vec::new()));
         let long = resized(of_letter("J"), 100_000);
-        self.add_run("J, with 100,000 bytes, beside an old file", over(long));
-        self.add_run("the worked fold of a shared arm", over(image::of_table(&SHARED.table())));
+        self.add_run("J, with 100,000 bytes, beside an old file", over_old(long));
+        self.add_run("the worked fold of a shared arm", over_old(image::of_table(&SHARED.table())));
         self.begins("folded 1 left 0 edges 3\n");
         let same = ProgramRun::fold(1, "in.sbt", "in.sbt", file("in.sbt", of_letter("J")));
         self.add_run("J, IN and OUT are one", same);
@@ -207,25 +283,77 @@ impl Cases {
         for shape in [shapes::nests(20, 34), shapes::ladder(), shapes::chain(2_048)] {
             let random = &mut self.next_random();
             let stream = image::of_table(&shape.relabelled(random).table(random));
-            self.add_run("a large table", over(stream));
+            self.add_run("a large table", over_old(stream));
         }
         let largest = image::of_table(&shapes::ladder().counted(7));
-        assert_eq!(largest.len(), image::LARGEST);
+        assert_eq!(largest.len(), image::LARGEST_OF_ONE);
         let files = file("in.sbt", largest.clone());
         let run = ProgramRun::fold(0, "in.sbt", "out.sbt", files);
         self.add_run("the largest image, copied", run);
         self.begins("folded 0 left ");
-        self.add_run("the largest image and a byte", over(resized(largest, LONGEST_STREAM)));
+        let longer = resized(largest, image::LARGEST_OF_ONE + 1);
+        self.add_run("the largest image and a byte", over_old(longer));
         self.begins("refused 12\n");
-        for _ in 0..8 {
-            let random = &mut self.next_random();
-            let table = shapes::bubbly_acyclic(random, 60).table(random);
-            self.add_run("a table rich in superbubbles", over(image::of_table(&table)));
-            let table = sharing_cases::row_with_long_arms(&mut self.next_random());
-            self.add_run("superbubbles in a row with long arms", over(image::of_table(&table)));
-            let stream = damaged_image(&mut self.next_random());
-            self.add_run("a damaged image beside an old file", over(stream));
+        for version in VERSIONS {
+            for _ in 0..8 {
+                self.folds_over_old(version);
+            }
         }
+    }
+
+    /// Tables and a damaged image, of a version, beside an old file.
+    fn folds_over_old(&mut self, version: Version) {
+        let random = &mut self.next_random();
+        let table = shapes::bubbly_acyclic(random, 60).table(random);
+        let stream = graphs::image(random, version, &table);
+        self.add_run(format!("a table rich in superbubbles, {version}"), over_old(stream));
+        let random = &mut self.next_random();
+        let table = sharing_cases::row_with_long_arms(version, random);
+        let stream = graphs::image(random, version, &table);
+        self.add_run(format!("superbubbles in a row with long arms, {version}"), over_old(stream));
+        let stream = damaged_image(&mut self.next_random(), version);
+        self.add_run(format!("a damaged image beside an old file, {version}"), over_old(stream));
+    }
+
+    fn folded_files_of_version_2(&mut self) {
+        for (letter, budget, text) in [
+            ("J", 1, "folded 1 left 0 edges 2\n"),
+            ("J", 0, "folded 0 left 1 edges 8\n"),
+            ("K", 2, "folded 2 left 0 edges 4\n"),
+            ("L", 1, "folded 1 left 0 edges 2\n"),
+            ("A", 1, "folded 0 left 0 edges 0\n"),
+            ("E", 1, "refused 9\n"),
+        ] {
+            let table = lettered(letter).table();
+            let stream = graphs::image(&mut self.next_random(), Version::Two, &table);
+            let run = ProgramRun::fold(budget, "in.sbt", "out.sbt", file("in.sbt", stream));
+            self.add_run(format!("{letter}, version 2"), run);
+            self.begins(text);
+        }
+        for (version, stream) in VERSIONS.into_iter().zip(weakest()) {
+            self.add_run(format!("by the weakest, {version}"), over_old(stream.clone()));
+            self.begins("folded 1 left 0 edges 3\n");
+            let same = ProgramRun::fold(1, "in.sbt", "in.sbt", file("in.sbt", stream));
+            self.add_run(format!("by the weakest, {version}, IN and OUT are one"), same);
+        }
+        for (name, stream, text) in refused_images() {
+            self.add_run(name, over_old(stream));
+            self.begins(text);
+        }
+        for shape in [shapes::nests(20, 34), shapes::ladder(), shapes::chain(2_048)] {
+            let random = &mut self.next_random();
+            let table = shape.relabelled(random).tied(random);
+            let stream = graphs::image(random, Version::Two, &table);
+            self.add_run("a large table, version 2", over_old(stream));
+        }
+        let largest = largest_of_two(7);
+        let files = file("in.sbt", largest.clone());
+        let run = ProgramRun::fold(0, "in.sbt", "out.sbt", files);
+        self.add_run("the largest image of all, copied", run);
+        self.begins("folded 0 left ");
+        let longer = resized(largest, LONGEST_STREAM);
+        self.add_run("the largest image of all and a byte", over_old(longer));
+        self.begins("refused 12\n");
     }
 
     /// Where `fold` gives no answer, every file is as it was, and there is none more.
@@ -283,9 +411,44 @@ fn of_letter(letter: &str) -> Vec<u8> {
     image::of_table(&lettered(letter).table())
 }
 
-fn damaged_image(random: &mut Random) -> Vec<u8> {
-    let damage = random.place(OF_TABLE.len() + OF_IMAGE.len());
-    damages::damaged_image(random, &[damage])
+fn damaged_image(random: &mut Random, version: Version) -> Vec<u8> {
+    let damage = random.one_of(&damages::of_images(version));
+    damages::damaged_image(random, version, &[damage])
+}
+
+/// Images of J that are refused for their version or for a length, and what is printed for them.
+fn refused_images() -> Vec<(&'static str, Vec<u8>, &'static str)> {
+    let with = |lengths: [u16; 7]| image::with_lengths(&graphs::j(), &lengths);
+    let (of_one, of_two) = (of_letter("J"), with([7; 7]));
+    vec![
+        ("J, version 0", image::with_version(&of_one, 0), "refused 11\n"),
+        ("J, version 3", image::with_version(&of_one, 3), "refused 11\n"),
+        ("J with lengths, version 3", image::with_version(&of_two, 3), "refused 11\n"),
+        ("J with lengths, version 258", image::with_version(&of_two, 258), "refused 11\n"),
+        ("J, version 2 without lengths", image::with_version(&of_one, 2), "refused 12\n"),
+        ("J, version 1 with lengths", image::with_version(&of_two, 1), "refused 12\n"),
+        ("J, first length 0", with([0, 1, 1, 1, 1, 1, 1]), "refused 20\n"),
+        ("J, last length 0", with([1, 1, 1, 1, 1, 1, 0]), "refused 20\n"),
+    ]
+}
+
+/// The table of the worked fold By the weakest as an image of each version.
+fn weakest() -> [Vec<u8>; 2] {
+    let table = WEAKEST.table();
+    [image::of_table(&table), image::with_lengths(&table, &LENGTHS_OF_WEAKEST)]
+}
+
+/// An image that is as long as one can be, of a table without a cycle in which every count is this.
+fn largest_of_two(count: u64) -> Vec<u8> {
+    let largest = image::with_lengths(&shapes::ladder().counted(count), &[300; MOST_VERTICES]);
+    assert_eq!(largest.len(), image::LARGEST);
+    largest
+}
+
+/// A fold with budget 1 over an old file.
+fn over_old(stream: Vec<u8>) -> ProgramRun {
+    let files = [file("in.sbt", stream), file("out.sbt", vec![1, 2, 3])].concat();
+    ProgramRun::fold(1, "in.sbt", "out.sbt", files)
 }
 
 fn file(name: &str, content: Vec<u8>) -> Files {

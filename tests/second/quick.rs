@@ -10,6 +10,7 @@
 use crate::sharing;
 use crate::superbubbles::{Superbubble, Way};
 use crate::table::Table;
+use crate::versions::Version;
 use std::collections::{BTreeSet, VecDeque};
 
 pub const WAY: Way = Way { superbubbles, judge, kept, share: sharing::divided, has_cycle };
@@ -113,28 +114,65 @@ fn between(s: usize, t: usize, successors: &Neighbours) -> BTreeSet<usize> {
     seen
 }
 
-/// From the exit backwards: the best that can still be gathered from each vertex, and by which
-/// successor, the smallest of those that are as good.
-fn kept(table: &Table, superbubble: &Superbubble) -> Vec<usize> {
-    let exit = superbubble.exit;
+fn kept(version: Version, table: &Table, superbubble: &Superbubble) -> Vec<usize> {
+    let (entrance, exit) = superbubble.pair();
     // of U alone, up to the exit
     let mut successors = vec![Vec::new(); table.starts.len() - 1];
     for &vertex in superbubble.all.iter().filter(|&&vertex| vertex != exit) {
         successors[vertex] = table.row(vertex).iter().map(|&next| next as usize).collect();
     }
+    if version == Version::Two {
+        // the bare edge is never kept
+        successors[entrance].retain(|&next| next != exit);
+    }
+    let next = match version {
+        Version::One => next_by_sum(table, exit, &successors),
+        Version::Two => next_by_weakest(table, entrance, exit, &successors),
+    };
+    let mut path = vec![entrance];
+    while path[path.len() - 1] != exit {
+        path.push(next[path[path.len() - 1]]);
+    }
+    path
+}
+
+/// From the exit backwards: the best that can still be gathered from each vertex, and by which
+/// successor, the smallest of those that are as good.
+fn next_by_sum(table: &Table, exit: usize, successors: &Neighbours) -> Vec<usize> {
     let mut best = vec![0; successors.len()];
     let mut next = vec![exit; successors.len()];
-    for &vertex in &bound_for(exit, &successors, &turned_round(&successors))[1..] {
+    for &vertex in &bound_for(exit, successors, &turned_round(successors))[1..] {
         let by = |on: usize| if on == exit { 0 } else { table.counts[on] + best[on] };
         let most = successors[vertex].iter().map(|&on| by(on)).max().unwrap();
         next[vertex] = *successors[vertex].iter().find(|&&on| by(on) == most).unwrap();
         best[vertex] = most;
     }
-    let mut path = vec![superbubble.entrance];
-    while path[path.len() - 1] != exit {
-        path.push(next[path[path.len() - 1]]);
+    next
+}
+
+/// From the exit backwards: how large the smallest count can be of all that is still to come from each
+/// vertex. Then for each vertex the smallest successor by which no count is below what the entrance can
+/// have: what would be better from there on does not matter.
+fn next_by_weakest(
+    table: &Table,
+    entrance: usize,
+    exit: usize,
+    successors: &Neighbours,
+) -> Vec<usize> {
+    let mut to_come = vec![u64::MAX; successors.len()];
+    let by = |on: usize, to_come: &[u64]| {
+        if on == exit {
+            u64::MAX
+        } else {
+            to_come[on].min(table.counts[on])
+        }
+    };
+    for &vertex in &bound_for(exit, successors, &turned_round(successors))[1..] {
+        to_come[vertex] = successors[vertex].iter().map(|&on| by(on, &to_come)).max().unwrap();
     }
-    path
+    let due = to_come[entrance];
+    let next = |on: &Vec<usize>| on.iter().copied().find(|&on| by(on, &to_come) >= due);
+    successors.iter().map(|on| next(on).unwrap_or(exit)).collect()
 }
 
 /// Takes away vertices that have no predecessor left; what remains has a cycle.

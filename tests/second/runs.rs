@@ -3,7 +3,7 @@
 
 use crate::count::Fault;
 use crate::fold;
-use crate::image;
+use crate::image::{self, Content};
 use crate::messages::{unread, NO_FILE};
 use crate::parts::{difference_of_parts, Part};
 use crate::programs::{self, Run, WHOLE};
@@ -108,13 +108,13 @@ impl ProgramRun {
     }
 
     pub fn list(stream: Vec<u8>) -> ProgramRun {
-        let due = Due::Text(image::text(&stream, list_text));
+        let due = Due::Text(image::text(&stream, |content| list_text(&content.table)));
         ProgramRun::of_stream("list", &[], stream, due)
     }
 
     /// Both words are digits.
     pub fn judge(s: &str, t: &str, stream: Vec<u8>) -> ProgramRun {
-        let due = Due::Text(image::text(&stream, |table| judge_text(table, s, t)));
+        let due = Due::Text(image::text(&stream, |content| judge_text(&content.table, s, t)));
         ProgramRun::of_stream("judge", &[s, t], stream, due)
     }
 
@@ -299,18 +299,21 @@ fn judge_text(table: &Table, s: &str, t: &str) -> String {
     }
 }
 
-/// What `fold` prints for an image, and the image that it writes, where it does.
+/// What `fold` prints for an image, and the image that it writes, where it does: of the same version,
+/// with the lengths as they were.
 fn folded_file(stream: &[u8], budget: u32) -> (String, Option<Vec<u8>>) {
     let refused = |number: u32| (format!("refused {number}\n"), None);
-    let table = match image::table_or_number(stream) {
-        Ok(table) => table,
+    let content = match image::content_or_number(stream) {
+        Ok(content) => content,
         Err(number) => return refused(number),
     };
-    if (way(&table).has_cycle)(&table) {
+    let table = &content.table;
+    if (way(table).has_cycle)(table) {
         return refused(9);
     }
-    let done = fold::fold(way(&table), &table, budget);
+    let done = fold::fold(way(table), content.version(), table, budget);
     let edges = done.table.targets.len();
     let text = format!("folded {} left {} edges {edges}\n", done.folded, done.left);
-    (text, Some(image::of_table(&done.table)))
+    let new = Content { table: done.table, lengths: content.lengths };
+    (text, Some(new.image()))
 }

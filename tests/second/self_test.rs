@@ -1,17 +1,20 @@
 //! The second program held to itself and to the rules: its answers to what was written by hand, the
-//! definition against the quick way, cycles against a walk, folding in turn against folding by the
-//! sum, look and load in a row, and that the cases reach what they must.
+//! definition against the quick way, cycles against a walk, images and what they hold turned into each
+//! other, folding in turn against folding by the sum, look and load in a row, and that the cases reach
+//! what they must.
 
 use crate::cases::{self, Case};
 use crate::count::{Count, Fault};
 use crate::coverage;
 use crate::fold::{self, Folded};
+use crate::image;
 use crate::in_a_row;
+use crate::operations::Operation;
 use crate::parallel;
 use crate::parts::difference_of_parts;
 use crate::quick;
 use crate::superbubbles;
-use crate::table::Table;
+use crate::turns::Question;
 use crate::walk;
 
 /// Tries all, and prints how many checks there are of each kind. The answers are those to the cases.
@@ -23,10 +26,11 @@ pub fn check(cases: &[Case], answers: &[Vec<u8>], count: &mut Count) {
         parallel::each(&with_answers, check).into_iter().flatten().collect()
     };
     let in_a_row = with_answers.iter().map(|&(case, answer)| (case, &answer[..]));
-    let kinds: [(&str, Vec<(&Case, Fault)>); 5] = [
+    let kinds: [(&str, Vec<(&Case, Fault)>); 6] = [
         ("answers written by hand", each(by_hand)),
         ("answers by the definition and by the quick way", each(by_both_ways)),
         ("cycles, found or not, by either way and by a walk", each(by_walk)),
+        ("images and what they hold, there and back", each(there_and_back)),
         ("tables folded in turn and by the sum", cases::in_turn(cases, &fold)),
         ("looks and loads in a row", in_a_row::checks(in_a_row)),
     ];
@@ -60,9 +64,21 @@ pub fn by_walk(case: &Case, answer: &[u8]) -> Option<Fault> {
     Some((is_refused != due).then(|| format!("refused 9: {is_refused}, by a walk: {due}")))
 }
 
+/// What is wrong with an image that is accepted, or with a table that is written: what it holds makes the
+/// same image, and its image holds the same.
+fn there_and_back(case: &Case, _: &[u8]) -> Option<Fault> {
+    let operation = case.operation().filter(|operation| operation.faults().is_empty())?;
+    let is_same = match operation {
+        Operation::Look { stream } => image::content_in(stream).image() == *stream,
+        Operation::Write { content, .. } => image::content_in(&content.image()) == *content,
+        _ => return None,
+    };
+    Some((!is_same).then(|| "another one comes back".to_string()))
+}
+
 /// Folds by the second program itself.
-pub fn fold(questions: &[(&Table, u32)]) -> Vec<Result<Folded, String>> {
-    parallel::each(questions, |(table, budget)| {
-        Ok(fold::fold(superbubbles::way(table), table, *budget))
+pub fn fold(questions: &[Question]) -> Vec<Result<Folded, String>> {
+    parallel::each(questions, |(version, table, budget)| {
+        Ok(fold::fold(superbubbles::way(table), *version, table, *budget))
     })
 }

@@ -18,6 +18,11 @@ impl Shape {
         graphs::of_edges(&self.edges, graphs::counts(random, self.n))
     }
 
+    /// The table with counts by which many paths are worth the same.
+    pub fn tied(&self, random: &mut Random) -> Table {
+        graphs::of_edges(&self.edges, graphs::tied_counts(random, self.n))
+    }
+
     /// The table in which every vertex has this count.
     pub fn counted(&self, count: u64) -> Table {
         graphs::of_edges(&self.edges, vec![count; self.n])
@@ -144,7 +149,7 @@ fn backwards(n: usize) -> Vec<usize> {
     (0..n).rev().collect()
 }
 
-fn at_random(n: usize, random: &mut Random) -> Vec<usize> {
+pub fn at_random(n: usize, random: &mut Random) -> Vec<usize> {
     let mut names: Vec<usize> = (0..n).collect();
     for place in 1..n {
         names.swap(place, random.between(0, place));
@@ -156,12 +161,25 @@ fn at_random(n: usize, random: &mut Random) -> Vec<usize> {
 
 /// Every graph of n vertices, self-loops and all.
 pub fn every(n: usize) -> Vec<Shape> {
-    let pairs = pairs(n);
+    every_choice(n, &pairs(n))
+}
+
+/// Every graph of n vertices whose edges all rise.
+pub fn every_rising(n: usize) -> Vec<Shape> {
+    every_choice(n, &rising(n))
+}
+
+/// Every graph of n vertices that has some of these edges.
+fn every_choice(n: usize, edges: &[Edge]) -> Vec<Shape> {
     let chosen = |number: u32| {
         let stands = |place: &usize| number >> place & 1 == 1;
-        (0..pairs.len()).filter(stands).map(|place| pairs[place]).collect()
+        (0..edges.len()).filter(stands).map(|place| edges[place]).collect()
     };
-    (0..1 << pairs.len()).map(|number| Shape { n, edges: chosen(number) }).collect()
+    (0..1 << edges.len()).map(|number| Shape { n, edges: chosen(number) }).collect()
+}
+
+fn rising(n: usize) -> Vec<Edge> {
+    pairs(n).into_iter().filter(|(from, to)| from < to).collect()
 }
 
 pub fn pairs(n: usize) -> Vec<Edge> {
@@ -175,7 +193,7 @@ pub fn any(random: &mut Random, n: usize) -> Shape {
 
 /// Any graph of n vertices whose edges all rise.
 pub fn acyclic(random: &mut Random, n: usize) -> Shape {
-    some_of(random, n, pairs(n).into_iter().filter(|(from, to)| from < to).collect())
+    some_of(random, n, rising(n))
 }
 
 fn some_of(random: &mut Random, n: usize, mut edges: Vec<Edge>) -> Shape {
@@ -207,6 +225,21 @@ pub fn bubbly_acyclic(random: &mut Random, n: usize) -> Shape {
         _ => chain(few),
     };
     first.grown(random, n).relabelled(random)
+}
+
+/// From the first of n vertices to the last by any edges that rise, so that each vertex between lies on
+/// some path: mostly one superbubble of many paths.
+pub fn tangle(random: &mut Random, n: usize) -> Shape {
+    let mut tangle = acyclic(random, n);
+    for inner in 1..n - 1 {
+        if !tangle.edges.iter().any(|&(_, to)| to == inner) {
+            tangle.edges.push((random.place(inner), inner));
+        }
+        if !tangle.edges.iter().any(|&(from, _)| from == inner) {
+            tangle.edges.push((inner, random.between(inner + 1, n - 1)));
+        }
+    }
+    tangle
 }
 
 /// Two superbubbles one after the other with arms of up to twelve vertices, in which others grow, as far

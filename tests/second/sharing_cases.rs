@@ -8,11 +8,12 @@ use crate::operations::Operation;
 use crate::random::Random;
 use crate::shapes::{self, Shape, NUMBERINGS};
 use crate::table::{Table, LARGEST_SUM, MOST_VERTICES};
+use crate::versions::Version;
 
-/// An arm of a superbubble: how many vertices it has, and how many reads they have together.
-type Arm = (usize, u64);
+/// An arm of a superbubble: the counts of its vertices. The bare edge has none.
+type Arm = Vec<u64>;
 
-const BARE_EDGE: Arm = (0, 0);
+const BARE_EDGE: Arm = Vec::new();
 
 /// The most inner vertices that a kept path can have where a vertex is dropped.
 const LONGEST: usize = MOST_VERTICES - 3;
@@ -34,23 +35,25 @@ const LARGE_SUMS: [(&str, u64, &[u64]); 4] = [
 ];
 
 impl Cases {
-    pub fn shares(&mut self) {
-        self.every_remainder();
-        self.long_paths();
-        self.largest_sums();
+    pub fn shares(&mut self, version: Version) {
+        self.every_remainder(version);
+        self.long_paths(version);
+        self.largest_sums(version);
         for _ in 0..60 {
-            self.one_folded("arms that are worth the same", None, |random| {
-                let reads = random.one_of(&[0, 0, 1, 7, 1_000, LARGEST_SUM / 6]);
-                let arms = worth_the_same(random, reads);
+            self.one_folded(version, "arms that are worth the same", None, |random| {
+                let worth = random.one_of(&[0, 0, 1, 7, 1_000, most_worth(version)]);
+                let arms = worth_the_same(version, random, worth);
                 Counted::of(random, &[arms])
             });
         }
         for _ in 0..500 {
-            self.parted("superbubbles in a row with long arms", 7, row_with_long_arms);
+            self.parted(version, "superbubbles in a row with long arms", 7, |random| {
+                row_with_long_arms(version, random)
+            });
         }
         for (many, most) in [(300, 150), (4, MOST_VERTICES)] {
             for _ in 0..many {
-                self.parted("long arms with superbubbles inside", 3, |random| {
+                self.parted(version, "long arms with superbubbles inside", 3, |random| {
                     let n = random.between(most / 3, most);
                     shapes::long_armed(random, n).table(random)
                 });
@@ -59,41 +62,46 @@ impl Cases {
     }
 
     /// Fewer dropped reads than inner vertices, as many or some more, and many more.
-    fn every_remainder(&mut self) {
+    fn every_remainder(&mut self, version: Version) {
         for inner in 1..=12 {
             for remainder in 0..inner {
                 for (least, most) in [(0, 0), (1, 1), (2, 1_000)] {
                     let name = format!("{inner} inner vertices, remainder {remainder}");
-                    self.one_folded(&name, Some(inner), |random| {
+                    self.one_folded(version, &name, Some(inner), |random| {
                         let reads = random.between(least, most) * inner + remainder;
-                        superbubble(random, inner, reads)
+                        superbubble(version, random, inner, reads)
                     });
                 }
             }
         }
     }
 
-    fn long_paths(&mut self) {
+    fn long_paths(&mut self, version: Version) {
+        // in version 2 each kept count is larger than all dropped reads
+        let most = match version {
+            Version::One => 1 << 27,
+            Version::Two => 1 << 15,
+        };
         for inner in [63, 64, 65, 255, 256, 1_000, 2_000, LONGEST] {
             for (words, remainder) in REMAINDERS {
                 let name = format!("{inner} inner vertices, {words}");
-                self.one_folded(&name, Some(inner), |random| {
+                self.one_folded(version, &name, Some(inner), |random| {
                     let remainder = remainder(random, inner);
                     let least = usize::from(remainder == 0);
-                    let reads = random.one_of(&[least, 1, 1_000, 1 << 27]) * inner + remainder;
-                    superbubble(random, inner, reads)
+                    let reads = random.one_of(&[least, 1, 1_000, most]) * inner + remainder;
+                    superbubble(version, random, inner, reads)
                 });
             }
         }
     }
 
-    fn largest_sums(&mut self) {
+    fn largest_sums(&mut self, version: Version) {
         for inner in [1, 2, 3, 5, 7, 12, 100] {
             for (words, kept, dropped) in LARGE_SUMS {
                 let name = format!("the largest sum, {inner} inner vertices, {words}");
-                self.one_folded(&name, Some(inner), |random| {
-                    let dropped = dropped.iter().map(|&reads| (random.between(1, 3), reads));
-                    let arms = [(inner, kept)].into_iter().chain(dropped).collect();
+                self.one_folded(version, &name, Some(inner), |random| {
+                    let mut arms = vec![kept_arm(version, random, inner, kept)];
+                    arms.extend(dropped.iter().map(|&reads| dropped_arm(version, random, reads)));
                     Counted::of(random, &[arms]).filled()
                 });
             }
@@ -104,23 +112,30 @@ impl Cases {
     /// is known how many edges are left.
     fn one_folded(
         &mut self,
+        version: Version,
         name: &str,
         inner: Option<usize>,
         make: impl Fn(&mut Random) -> Counted,
     ) {
         let edges = inner.map_or_else(String::new, |inner| format!("{}\n", inner + 1));
-        self.in_each_numbering(name, &format!("fold 0 1 0 {edges}"), |random, number| {
+        self.in_each_numbering(version, name, &format!("0 1 0 {edges}"), |random, number| {
             let counted = make(random);
             let table = counted.table(&number(counted.shape.n, random));
-            Operation::fold_exactly(random.one_of(&[1, 1, 2, u32::MAX]), table)
+            Operation::fold_exactly(version, random.one_of(&[1, 1, 2, u32::MAX]), table)
         });
     }
 
     /// A table with several superbubbles, of which a budget up to this one folds some.
-    fn parted(&mut self, name: &str, most: usize, make: impl Fn(&mut Random) -> Table) {
+    fn parted(
+        &mut self,
+        version: Version,
+        name: &str,
+        most: usize,
+        make: impl Fn(&mut Random) -> Table,
+    ) {
         self.add(name, |random| {
             let table = make(random);
-            Operation::fold_exactly(random.between(0, most) as u32, table)
+            Operation::fold_exactly(version, random.between(0, most) as u32, table)
         });
     }
 }
@@ -132,17 +147,14 @@ struct Counted {
 }
 
 impl Counted {
-    /// Superbubbles one after the other by their arms. The reads of an arm lie on its vertices in any
-    /// way, and a few lie on each entrance and exit.
+    /// Superbubbles one after the other by their arms. A few reads lie on each entrance and exit.
     fn of(random: &mut Random, superbubbles: &[Vec<Arm>]) -> Counted {
-        let lengths = |arms: &Vec<Arm>| arms.iter().map(|&(inner, _)| inner).collect();
+        let lengths = |arms: &Vec<Arm>| arms.iter().map(Vec::len).collect();
         let shape = shapes::arms(&superbubbles.iter().map(lengths).collect::<Vec<_>>());
         let mut counts = vec![random.between(0, 9) as u64];
         for arms in superbubbles {
             counts.push(random.between(0, 9) as u64);
-            for &(inner, reads) in arms.iter().filter(|&&arm| arm != BARE_EDGE) {
-                counts.extend(random.parts(reads, inner));
-            }
+            counts.extend(arms.iter().flatten());
         }
         Counted { shape, counts }
     }
@@ -164,20 +176,26 @@ impl Counted {
 }
 
 /// A superbubble whose kept path has so many inner vertices, and from which so many reads are dropped.
-fn superbubble(random: &mut Random, inner: usize, reads: usize) -> Counted {
-    let arms = arms(random, inner, reads);
+fn superbubble(version: Version, random: &mut Random, inner: usize, reads: usize) -> Counted {
+    let arms = arms(version, random, inner, reads);
     Counted::of(random, &[arms])
 }
 
 /// The arms of such a one: beside the kept arm one to three short ones, and perhaps a bare edge.
-fn arms(random: &mut Random, inner: usize, reads: usize) -> Vec<Arm> {
+fn arms(version: Version, random: &mut Random, inner: usize, reads: usize) -> Vec<Arm> {
     // beside the longest there is room for one vertex alone
     let most = if inner == LONGEST { 1 } else { 3 };
     let lengths: Vec<usize> =
         (0..random.between(1, most)).map(|_| random.between(1, most)).collect();
     let dropped = random.parts(reads as u64, lengths.len());
-    let kept = dropped.iter().max().unwrap() + random.one_of(&[1, 2, 100]);
-    let mut arms: Vec<Arm> = lengths.into_iter().zip(dropped).chain([(inner, kept)]).collect();
+    let largest = dropped.iter().max().unwrap() + random.one_of(&[1, 2, 100]);
+    let with_reads = dropped.into_iter().zip(lengths);
+    let mut arms: Vec<Arm> =
+        with_reads.map(|(reads, length)| random.parts(reads, length)).collect();
+    arms.push(match version {
+        Version::One => random.parts(largest, inner),
+        Version::Two => (0..inner).map(|_| largest + random.one_of(&[0, 0, 1, 9])).collect(),
+    });
     if random.between(0, 3) == 0 {
         arms.push(BARE_EDGE);
     }
@@ -186,32 +204,79 @@ fn arms(random: &mut Random, inner: usize, reads: usize) -> Vec<Arm> {
     arms
 }
 
-/// Two to five arms of up to twelve vertices that are worth the same; where that is nothing, with a bare
-/// edge.
-fn worth_the_same(random: &mut Random, reads: u64) -> Vec<Arm> {
-    let mut arms: Vec<Arm> =
-        (0..random.between(2, 5)).map(|_| (random.between(1, 12), reads)).collect();
-    if reads == 0 {
+/// An arm of so many vertices with these reads, which lie on them in any way; in version 2 no count is
+/// 0, so that it is kept beside arms that have such a one.
+fn kept_arm(version: Version, random: &mut Random, inner: usize, reads: u64) -> Arm {
+    let least = match version {
+        Version::One => 0,
+        Version::Two => 1,
+    };
+    let above = random.parts(reads - least * inner as u64, inner);
+    above.into_iter().map(|count| least + count).collect()
+}
+
+/// An arm of one to three vertices with these reads, and in version 2 of one more with the count 0.
+fn dropped_arm(version: Version, random: &mut Random, reads: u64) -> Arm {
+    let length = random.between(1, 3);
+    let mut arm = random.parts(reads, length);
+    if version == Version::Two {
+        arm.insert(random.between(0, length), 0);
+    }
+    arm
+}
+
+/// The most that five arms of up to twelve vertices are worth each, so that the sum is allowed.
+fn most_worth(version: Version) -> u64 {
+    match version {
+        Version::One => LARGEST_SUM / 6,
+        Version::Two => LARGEST_SUM / 180,
+    }
+}
+
+/// Two to five arms of up to twelve vertices that are worth the same: by their sums in version 1, by
+/// their smallest counts in version 2. Where that is nothing, with a bare edge.
+fn worth_the_same(version: Version, random: &mut Random, worth: u64) -> Vec<Arm> {
+    let mut arm = || {
+        let length = random.between(1, 12);
+        match version {
+            Version::One => random.parts(worth, length),
+            Version::Two => {
+                let mut arm: Arm =
+                    (0..length).map(|_| worth + random.one_of(&[0, 1, 5, worth])).collect();
+                arm[random.place(length)] = worth;
+                arm
+            }
+        }
+    };
+    let mut arms: Vec<Arm> = (0..5).map(|_| arm()).collect();
+    arms.truncate(random.between(2, 5));
+    if worth == 0 {
         arms.push(BARE_EDGE);
     }
     arms
 }
 
 /// Two to six superbubbles one after the other, numbered in any way.
-pub fn row_with_long_arms(random: &mut Random) -> Table {
-    let superbubbles: Vec<Vec<Arm>> = (0..random.between(2, 6)).map(|_| any_arms(random)).collect();
+pub fn row_with_long_arms(version: Version, random: &mut Random) -> Table {
+    let superbubbles: Vec<Vec<Arm>> =
+        (0..random.between(2, 6)).map(|_| any_arms(version, random)).collect();
     let counted = Counted::of(random, &superbubbles);
     let (_, number) = random.one_of(&NUMBERINGS);
     counted.table(&number(counted.shape.n, random))
 }
 
-fn any_arms(random: &mut Random) -> Vec<Arm> {
+fn any_arms(version: Version, random: &mut Random) -> Vec<Arm> {
     if random.between(0, 5) == 0 {
-        let reads = random.one_of(&[0, 7]);
-        return worth_the_same(random, reads);
+        let worth = random.one_of(&[0, 7]);
+        return worth_the_same(version, random, worth);
     }
     let inner = random.one_of(&[1, 2, 3, 4, 5, 7, 8, 12, 16, 33]);
-    let most = random.one_of(&[inner, 3 * inner, 1_000, 1 << 35]);
+    // the counts of six of these come to an allowed sum
+    let largest = match version {
+        Version::One => 1 << 35,
+        Version::Two => 1 << 31,
+    };
+    let most = random.one_of(&[inner, 3 * inner, 1_000, largest]);
     let reads = random.between(0, most);
-    arms(random, inner, reads)
+    arms(version, random, inner, reads)
 }

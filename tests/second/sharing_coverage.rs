@@ -5,6 +5,7 @@
 
 use crate::answers::numbers_in_first_line;
 use crate::cases::Case;
+use crate::choosing_coverage;
 use crate::count::Fault;
 use crate::coverage::{met, too_few};
 use crate::fold::{self, Chosen};
@@ -14,7 +15,8 @@ use crate::quick;
 use crate::sharing::{self, Share, MOST_DEALT, WRONG};
 use crate::superbubbles;
 use crate::table::{Table, LARGEST_SUM};
-use crate::turns::Turns;
+use crate::turns::{Question, Turns};
+use crate::versions::{Version, VERSIONS};
 use std::cmp::Ordering;
 use std::collections::BTreeSet;
 
@@ -24,37 +26,45 @@ const OF_WRONG_RULE: usize = 300;
 const OF_TURNS: usize = 3;
 
 pub fn check(cases: &[Case], answers: &[Vec<u8>]) -> Vec<(String, Fault)> {
-    let folds: Vec<(&Table, u32)> = cases.iter().zip(answers).filter_map(folded).collect();
+    let folds: Vec<Question> = cases.iter().zip(answers).filter_map(folded).collect();
     let folds: Vec<Fold> = parallel::each(&folds, Fold::of);
-    let mut checks = remainders(&folds);
-    checks.extend(met("fold", &folds, &MET));
-    checks.push(both_ways(&folds));
-    checks.extend(wrong_rules(&folds));
-    checks.extend(turns(cases));
+    let mut checks = choosing_coverage::check(&folds);
+    let (of_one, of_two): (Vec<Fold>, Vec<Fold>) =
+        folds.into_iter().partition(|fold| fold.version == Version::One);
+    checks.extend(met(Version::One.fold(), &of_one, &[KEPT_BARE_EDGE]));
+    for (version, folds) in VERSIONS.into_iter().zip([of_one, of_two]) {
+        let fold = version.fold();
+        checks.extend(remainders(fold, &folds));
+        checks.extend(met(fold, &folds, &MET));
+        checks.push(both_ways(fold, &folds));
+        checks.extend(wrong_rules(fold, &folds));
+        checks.extend(turns(version, cases));
+    }
     checks
 }
 
 // ---- reads that are shared
 
 /// A fold that folds something, and what it folds.
-struct Fold<'a> {
-    table: &'a Table,
-    chosen: Vec<Chosen>,
+pub struct Fold<'a> {
+    pub version: Version,
+    pub table: &'a Table,
+    pub chosen: Vec<Chosen>,
 }
 
-/// The table and the budget of such a fold, by its answer.
-fn folded<'a>((case, answer): (&'a Case, &Vec<u8>)) -> Option<(&'a Table, u32)> {
+/// What such a fold is asked, by its answer.
+fn folded<'a>((case, answer): (&'a Case, &Vec<u8>)) -> Option<Question<'a>> {
     match (case.operation()?, &numbers_in_first_line(answer)[..]) {
-        (Operation::Fold { budget, table, .. }, [0, folded, ..]) if *folded > 0 => {
-            Some((table, *budget))
+        (Operation::Fold { version, budget, table, .. }, [0, folded, ..]) if *folded > 0 => {
+            Some((*version, table, *budget))
         }
         _ => None,
     }
 }
 
 impl Fold<'_> {
-    fn of<'a>(&(table, budget): &(&'a Table, u32)) -> Fold<'a> {
-        Fold { table, chosen: fold::chosen(&quick::WAY, table, budget) }
+    fn of<'a>(&(version, table, budget): &Question<'a>) -> Fold<'a> {
+        Fold { version, table, chosen: fold::chosen(&quick::WAY, version, table, budget) }
     }
 
     /// Whether it shares reads like this.
@@ -98,7 +108,7 @@ impl Shared<'_> {
 }
 
 /// Each remainder of each short length, and some of the long ones.
-fn remainders(folds: &[Fold]) -> Vec<(String, Fault)> {
+fn remainders(fold: &str, folds: &[Fold]) -> Vec<(String, Fault)> {
     let mut checks = Vec::new();
     for inner in 1..=12 {
         let kinds = (0..inner).map(|remainder| {
@@ -106,11 +116,11 @@ fn remainders(folds: &[Fold]) -> Vec<(String, Fault)> {
                 move |one: &Shared| one.inner.len() == inner && one.remainder == remainder;
             (format!("remainder {remainder}"), move |fold: &Fold| fold.shares(is_such))
         });
-        let title = format!("fold, inner vertices = {inner}");
+        let title = format!("{fold}, inner vertices = {inner}");
         checks.extend(in_a_line(&title, folds, OF_REMAINDER, kinds));
     }
     for (least, words) in [(100, "100"), (1_000, "1,000"), (2_000, "2,000")] {
-        let title = format!("fold, inner vertices {words} or more");
+        let title = format!("{fold}, inner vertices {words} or more");
         let kinds = OF_LONG.map(|(words, has)| {
             let is_such = move |one: &Shared| one.inner.len() >= least && has(one);
             (words.to_string(), move |fold: &Fold| fold.shares(is_such))
@@ -146,7 +156,13 @@ fn in_a_line<T>(
 }
 
 /// What folds must meet where reads are shared, and how many at least.
-const MET: [(&str, usize, fn(&Fold) -> bool); 9] = [
+type Met = (&'static str, usize, fn(&Fold) -> bool);
+
+/// In version 1 alone.
+const KEPT_BARE_EDGE: Met =
+    ("that keep a bare edge", 100, |fold| fold.chosen.iter().any(|one| one.inner().is_empty()));
+
+const MET: [Met; 8] = [
     ("that share fewer reads than there are inner vertices", 300, |fold| {
         fold.shares(|one| one.quotient == 0)
     }),
@@ -162,7 +178,6 @@ const MET: [(&str, usize, fn(&Fold) -> bool); 9] = [
     ("that share half of the largest sum or more over two inner vertices or more", 30, |fold| {
         fold.shares(|one| one.inner.len() > 1 && one.reads > LARGEST_SUM / 2)
     }),
-    ("that keep a bare edge", 100, |fold| fold.chosen.iter().any(|one| one.inner().is_empty())),
     ("that share over several numbers of inner vertices, each with a remainder", 100, |fold| {
         let with_remainder = fold.shared().filter(|one| one.remainder > 0);
         with_remainder.map(|one| one.inner.len()).collect::<BTreeSet<_>>().len() > 1
@@ -176,25 +191,26 @@ const MET: [(&str, usize, fn(&Fold) -> bool); 9] = [
 ];
 
 /// Whether reads that are dealt one by one come out as divided ones, for all that the folds share.
-fn both_ways(folds: &[Fold]) -> (String, Fault) {
+fn both_ways(fold: &str, folds: &[Fold]) -> (String, Fault) {
     let shared = folds.iter().flat_map(Fold::shared).map(|one| (one.reads, one.inner.len()));
     let dealt: BTreeSet<(u64, usize)> = shared.filter(|one| one.0 <= MOST_DEALT).collect();
-    println!("fold: {} sums over inner vertices, dealt one by one and divided", dealt.len());
+    println!("{fold}: {} sums over inner vertices, dealt one by one and divided", dealt.len());
     let differs =
         |&&(reads, inner): &&_| sharing::dealt(reads, inner) != sharing::divided(reads, inner);
     let fault = dealt.iter().find(differs).map(|(reads, inner)| format!("not {reads} to {inner}"));
-    ("fold: reads dealt one by one come out as divided".to_string(), fault)
+    (format!("{fold}: reads dealt one by one come out as divided"), fault)
 }
 
 /// Each wrong rule gives other counts.
-fn wrong_rules(folds: &[Fold]) -> Vec<(String, Fault)> {
+fn wrong_rules(fold: &str, folds: &[Fold]) -> Vec<(String, Fault)> {
     let right: Vec<Vec<u64>> = folds.iter().map(|fold| fold.counts_by(sharing::divided)).collect();
     let mut checks = Vec::new();
     for (rule, share) in WRONG {
         let both = folds.iter().zip(&right);
         let told = both.filter(|(fold, right)| fold.counts_by(share) != **right).count();
-        println!("fold: {told} that tell a wrong rule: {rule}");
-        checks.push((format!("fold: a wrong rule is told: {rule}"), too_few(told, OF_WRONG_RULE)));
+        println!("{fold}: {told} that tell a wrong rule: {rule}");
+        let title = format!("{fold}: a wrong rule is told: {rule}");
+        checks.push((title, too_few(told, OF_WRONG_RULE)));
     }
     checks
 }
@@ -216,8 +232,9 @@ impl InTurn<'_> {
 }
 
 /// Each number of budgets, with each kind of sum and with a budget of 0.
-fn turns(cases: &[Case]) -> Vec<(String, Fault)> {
-    let turns: Vec<&Turns> = cases.iter().filter_map(Case::turns).collect();
+fn turns(version: Version, cases: &[Case]) -> Vec<(String, Fault)> {
+    let turns = cases.iter().filter_map(Case::turns);
+    let turns: Vec<&Turns> = turns.filter(|turns| turns.version == version).collect();
     let turns: Vec<InTurn> = parallel::each(&turns, InTurn::of).into_iter().flatten().collect();
     let mut checks = Vec::new();
     for many in 1..=6 {
@@ -225,7 +242,8 @@ fn turns(cases: &[Case]) -> Vec<(String, Fault)> {
             let is_such = move |one: &InTurn| one.budgets.len() == many && is_such(one);
             (words.to_string(), is_such)
         });
-        let title = format!("folds in turn of two candidates or more, budgets = {many}");
+        let fold = version.fold();
+        let title = format!("{fold} in turn, of two candidates or more, budgets = {many}");
         checks.extend(in_a_line(&title, &turns, OF_TURNS, kinds));
     }
     checks

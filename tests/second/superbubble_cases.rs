@@ -2,7 +2,7 @@
 //! tables; every pair of many small ones is judged.
 
 use crate::cases::Cases;
-use crate::damages::{self, OF_TABLE};
+use crate::damages;
 use crate::graphs::{self, Edge};
 use crate::operations::{Operation, LONGEST_LIST};
 use crate::quick;
@@ -36,7 +36,7 @@ impl Cases {
             });
         }
         self.large_superbubbles();
-        for chosen in damages::choices(OF_TABLE.len(), self.seed) {
+        for chosen in damages::choices(&damages::of_tables(), self.seed) {
             let make = |random: &mut Random| damages::damaged_table(random, &chosen);
             self.list(&damages::names(&chosen), make);
             self.add(damages::names(&chosen), |random| {

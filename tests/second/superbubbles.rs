@@ -5,6 +5,7 @@ use crate::definition;
 use crate::quick;
 use crate::sharing::Share;
 use crate::table::Table;
+use crate::versions::Version;
 use std::collections::BTreeSet;
 
 pub struct Superbubble {
@@ -39,8 +40,8 @@ pub struct Way {
     pub superbubbles: fn(&Table) -> Vec<Superbubble>,
     /// The superbubble of an entrance and an exit, where they form one.
     pub judge: fn(&Table, usize, usize) -> Option<Superbubble>,
-    /// The path that folding keeps, from the entrance to the exit.
-    pub kept: fn(&Table, &Superbubble) -> Vec<usize>,
+    /// The path that the fold of a version keeps, from the entrance to the exit.
+    pub kept: fn(Version, &Table, &Superbubble) -> Vec<usize>,
     /// What each vertex of the kept path gets of the dropped reads.
     pub share: Share,
     /// Whether there is a directed cycle; edges that lead to no vertex are passed over.

@@ -1,13 +1,15 @@
-//! Folding in turn: several budgets, each on what the last left, give the table that one fold with
-//! their sum gives; the total never moves; and where no candidate is left, a further fold gives back
-//! its input.
+//! Folding in turn, by the fold of either version: several budgets, each on what the last left, give the
+//! table that one fold with their sum gives; the total never moves; and where no candidate is left, a
+//! further fold gives back its input.
 
 use crate::count::Fault;
 use crate::fold::Folded;
 use crate::parts::{difference_of_parts, Part};
 use crate::table::Table;
+use crate::versions::Version;
 
 pub struct Turns {
+    pub version: Version,
     pub table: Table,
     /// One or more budgets whose sum is one.
     pub budgets: Vec<u32>,
@@ -15,14 +17,18 @@ pub struct Turns {
     pub further: u32,
 }
 
-/// What folds many tables, each with its budget: for each what came of it, or in words why nothing did.
-pub type Folds<'a> = &'a dyn Fn(&[(&Table, u32)]) -> Vec<Result<Folded, String>>;
+/// A table, the version by whose fold it is to be folded, and the budget.
+pub type Question<'a> = (Version, &'a Table, u32);
+
+/// What folds many tables: for each what came of it, or in words why nothing did.
+pub type Folds<'a> = &'a dyn Fn(&[Question]) -> Vec<Result<Folded, String>>;
 
 impl Turns {
     /// What is asked, taken apart.
     pub fn asked(&self) -> Vec<Part> {
         let budgets: Vec<String> = self.budgets.iter().map(u32::to_string).collect();
         let mut asked = vec![
+            Part::value("by", self.version.fold()),
             Part::value("budgets", budgets.join(" ")),
             Part::value("a further one", self.further),
         ];
@@ -71,18 +77,19 @@ fn once_more(
     budget: impl Fn(&Turns) -> Option<u32>,
     folds: Folds,
 ) -> Vec<State> {
-    let budgets = turns.iter().map(|one| budget(one));
-    let with_budgets: Vec<(&State, Option<u32>)> = states.iter().zip(budgets).collect();
-    let questions: Vec<(&Table, u32)> = with_budgets
-        .iter()
-        .filter_map(|(state, budget)| Some((&state.as_ref().ok()?.table, (*budget)?)))
-        .collect();
+    let mut asked: Vec<Option<Question>> = Vec::new();
+    for (one, state) in turns.iter().zip(states) {
+        let folded = state.as_ref().ok();
+        let question = folded.zip(budget(one));
+        asked.push(question.map(|(before, budget)| (one.version, &before.table, budget)));
+    }
+    let questions: Vec<Question> = asked.iter().flatten().copied().collect();
     let mut answers = folds(&questions).into_iter();
-    let next = |(state, budget): (&State, Option<u32>)| match (state, budget) {
+    let next = |(state, asked): (&State, &Option<Question>)| match (state, asked) {
         (Ok(before), Some(_)) => added_up(before, answers.next().unwrap()?),
         _ => state.clone(),
     };
-    with_budgets.into_iter().map(next).collect()
+    states.iter().zip(&asked).map(next).collect()
 }
 
 /// What a fold gives, and with it what was folded before.

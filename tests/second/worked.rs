@@ -1,13 +1,15 @@
 //! What the rules work out themselves about superbubbles (docs/RULES.md, Twelve graphs and Worked
-//! folds), with answers written by hand: the twelve lists, pairs of the twelve graphs, the folds of J, K
-//! and L, folds that share reads, and a case for each error that an analyst has met.
+//! folds), with answers written by hand: the twelve lists, pairs of the twelve graphs, the folds of these
+//! in both versions, folds that share reads, folds by the weakest, and a case for each error that an
+//! analyst has met.
 
 use crate::answers;
 use crate::fold::Folded;
-use crate::graphs::{self, lettered, Edge, SHARED, TWELVE};
+use crate::graphs::{self, lettered, Edge, SHARED, TWELVE, WEAKEST};
 use crate::image::Room;
 use crate::operations::Operation;
 use crate::table::{Table, LARGEST_SUM};
+use crate::versions::{Version, VERSIONS};
 
 pub struct Worked {
     pub name: String,
@@ -18,8 +20,15 @@ pub struct Worked {
 pub fn all() -> Vec<Worked> {
     let mut all = twelve_lists();
     all.extend(pairs());
-    all.extend(folds());
+    for version in VERSIONS {
+        all.extend(folds(version));
+        all.extend(refused_folds(version));
+        all.extend(folds_without_interior(version));
+    }
+    all.extend(bare_edges());
     all.extend(shares());
+    all.extend(weakest());
+    all.extend(shares_by_weakest());
     all.extend(errors());
     all
 }
@@ -84,21 +93,19 @@ fn judge(name: &str, table: &Table, (s, t): Edge, size: Option<usize>) -> Worked
 
 // ---- fold
 
-fn folds() -> Vec<Worked> {
-    let [j, k, l] = ["J", "K", "L"].map(|letter| lettered(letter).table());
+/// Folds of the twelve graphs that come to the same in both versions.
+fn folds(version: Version) -> Vec<Worked> {
+    let [d, j, k, l] = ["D", "J", "K", "L"].map(|letter| lettered(letter).table());
+    let d_folded = folded(1, 0, &[(0, 2), (2, 3)], &[9, 0, 9, 9]);
     let j_folded = folded(1, 0, &[(0, 5), (5, 6)], &[10, 0, 0, 0, 0, 25, 10]);
     let k_once =
         folded(1, 1, &[(0, 1), (1, 3), (3, 4), (3, 5), (4, 6), (5, 6)], &[5, 4, 0, 5, 1, 4, 5]);
     let k_again = folded(1, 0, &[(0, 1), (1, 3), (3, 5), (5, 6)], &[5, 4, 0, 5, 0, 5, 5]);
     let k_at_once = Folded { folded: 2, ..k_again.clone() };
     let l_folded = folded(1, 0, &[(0, 1), (1, 2)], &[3, 0, 3]);
-    // here the bare edge stands before the arm by its vertex, and the only dropped count is 0
-    let bare = graphs::of_edges(&[(0, 1), (0, 2), (2, 1)], vec![3, 3, 0]);
-    let bare_folded = folded(1, 0, &[(0, 1)], &[3, 3, 0]);
-    // and here one read on the arm decides against it
-    let arm = graphs::of_edges(&[(0, 1), (0, 2), (2, 1)], vec![3, 3, 1]);
-    let arm_folded = folded(1, 0, &[(0, 2), (2, 1)], &[3, 3, 1]);
+    let fold = |name, table, budget, folded| fold(version, name, table, budget, folded);
     vec![
+        fold("D, budget 1", &d, 1, &d_folded),
         fold("J, budget 1", &j, 1, &j_folded),
         fold("J, budget 4,294,967,295", &j, u32::MAX, &j_folded),
         fold("J, budget 0", &j, 0, &unfolded(&j, 1)),
@@ -111,27 +118,70 @@ fn folds() -> Vec<Worked> {
         fold("K, budget 0", &k, 0, &unfolded(&k, 2)),
         fold("L, budget 1", &l, 1, &l_folded),
         fold("L, budget 0", &l, 0, &unfolded(&l, 1)),
-        fold("a kept bare edge", &bare, 1, &bare_folded),
-        fold("an arm with one read beside a bare edge", &arm, 1, &arm_folded),
     ]
 }
 
-/// Folds by which several inner vertices get reads.
+/// The graphs of the twelve that have a cycle.
+fn refused_folds(version: Version) -> Vec<Worked> {
+    let refused = |letter: &str| {
+        let table = lettered(letter).table();
+        let room = Room::taken_by(&table);
+        let answer = answers::fold(version, 9, Folded::default(), room);
+        let operation = Operation::fold_exactly(version, 1, table);
+        Worked { name: letter.to_string(), operation, answer }
+    };
+    ["E", "F", "G", "H", "I"].map(refused).into()
+}
+
+/// The graphs of the twelve without a superbubble that has an interior.
+fn folds_without_interior(version: Version) -> Vec<Worked> {
+    let table = |letter: &str| lettered(letter).table();
+    let given_back =
+        |letter: &str| fold(version, letter, &table(letter), 1, &unfolded(&table(letter), 0));
+    ["A", "B", "C"].map(given_back).into()
+}
+
+/// A bare edge that stands before the arms by its vertex: in version 1 it is kept where every count is
+/// 0, in version 2 it never is.
+fn bare_edges() -> Vec<Worked> {
+    let edges = [(0, 1), (0, 2), (2, 1)];
+    let one_arm = graphs::of_edges(&edges, vec![3, 3, 0]);
+    let two_arms = graphs::of_edges(&[&edges[..], &[(0, 3), (3, 1)]].concat(), vec![0; 4]);
+    // one read on the arm decides against it
+    let read = graphs::of_edges(&edges, vec![3, 3, 1]);
+    let read_folded = folded(1, 0, &edges[1..], &[3, 3, 1]);
+    let mut folds: Vec<Worked> = Vec::new();
+    for (version, kept) in [(Version::One, &edges[..1]), (Version::Two, &edges[1..])] {
+        let of_one_arm = folded(1, 0, kept, &[3, 3, 0]);
+        let of_two_arms = folded(1, 0, kept, &[0; 4]);
+        folds.push(fold(version, "a bare edge beside an arm of 0", &one_arm, 1, &of_one_arm));
+        folds.push(fold(version, "a bare edge beside two arms of 0", &two_arms, 1, &of_two_arms));
+        folds.push(fold(version, "a bare edge beside an arm of 1", &read, 1, &read_folded));
+    }
+    folds
+}
+
+/// Folds by which several inner vertices get reads; the first comes to the same in both versions.
 fn shares() -> Vec<Worked> {
     let mut shares = vec![list("a shared arm", &SHARED.table(), SHARED.list)];
+    for version in VERSIONS {
+        shares.extend(two_arms(
+            version,
+            "3 reads over 1 and 2: 2 and 1",
+            [&[0, 1, 2, 4], &[0, 3, 4]],
+            &[5, 4, 3, 3, 5],
+            &[5, 6, 4, 0, 5],
+        ));
+    }
     shares.extend(two_arms(
-        "3 reads over 1 and 2: 2 and 1",
-        [&[0, 1, 2, 4], &[0, 3, 4]],
-        &[5, 4, 3, 3, 5],
-        &[5, 6, 4, 0, 5],
-    ));
-    shares.extend(two_arms(
+        Version::One,
         "8 reads over 4, 3 and 1: 3, 3 and 2",
         [&[0, 4, 3, 1, 5], &[0, 2, 5]],
         &[9, 4, 8, 3, 2, 9],
         &[9, 6, 0, 6, 5, 9],
     ));
     shares.extend(two_arms(
+        Version::One,
         "2 reads over 5, 4, 2 and 1: 1, 1, 0 and 0",
         [&[0, 5, 4, 2, 1, 6], &[0, 3, 6]],
         &[1, 0, 3, 2, 0, 0, 1],
@@ -140,6 +190,7 @@ fn shares() -> Vec<Worked> {
     let largest_sum = [0, 549_755_813_888, 0, 549_755_813_887, 0];
     assert_eq!(largest_sum.iter().sum::<u64>(), LARGEST_SUM);
     shares.extend(two_arms(
+        Version::One,
         "the largest sum, 2^39 - 1 reads over 1 and 2: 2^38 and 2^38 - 1",
         [&[0, 1, 2, 4], &[0, 3, 4]],
         &largest_sum,
@@ -148,9 +199,73 @@ fn shares() -> Vec<Worked> {
     shares
 }
 
+/// The worked fold By the weakest, and on its table the fold of version 1; a tie at the first place; arms that
+/// are worth the same and have other sums; and what the ends have, which does not matter.
+fn weakest() -> Vec<Worked> {
+    let table = WEAKEST.table();
+    let by_weakest = folded(1, 0, &[(0, 1), (1, 2), (2, 4)], &[0, 6, 9, 0, 0]);
+    let by_sum = folded(1, 0, &[(0, 1), (1, 3), (3, 4)], &[0, 4, 0, 11, 0]);
+    let mut all = vec![
+        list("by the weakest", &table, WEAKEST.list),
+        fold(Version::Two, "by the weakest", &table, 1, &by_weakest),
+        fold(Version::Two, "by the weakest, budget 0", &table, 0, &unfolded(&table, 1)),
+        fold(Version::One, "by the sum", &table, 1, &by_sum),
+    ];
+    let again = unfolded(&by_weakest.table, 0);
+    all.push(fold(Version::Two, "by the weakest, once more", &by_weakest.table, 1, &again));
+    let long: [&[usize]; 2] = [&[0, 4, 5], &[0, 1, 2, 3, 5]];
+    let title = "a short strong arm beside a long one of weak vertices";
+    all.extend(two_arms(Version::Two, title, long, &[0, 3, 3, 3, 5, 0], &[0, 0, 0, 0, 14, 0]));
+    let [same, turned]: [[&[usize]; 2]; 2] = [[&[0, 1, 3], &[0, 2, 3]], [&[0, 2, 3], &[0, 1, 3]]];
+    let title = "a tie at the first place";
+    all.extend(two_arms(Version::Two, title, same, &[0, 7, 7, 0], &[0, 14, 0, 0]));
+    all.extend(two_arms(Version::Two, title, same, &[9, 0, 0, 9], &[9, 0, 0, 9]));
+    let title = "one read more at the second vertex";
+    all.extend(two_arms(Version::Two, title, turned, &[0, 7, 8, 0], &[0, 0, 15, 0]));
+    // 5 reads over 2 and 1: 3 and 2
+    let tied: [&[usize]; 2] = [&[0, 2, 1, 4], &[0, 3, 4]];
+    let title = "a tie of a long arm and a short one";
+    all.extend(two_arms(Version::Two, title, tied, &[0, 5, 9, 5, 0], &[0, 7, 12, 0, 0]));
+    all
+}
+
+/// Folds by the weakest by which several inner vertices get reads.
+fn shares_by_weakest() -> Vec<Worked> {
+    let mut shares = two_arms(
+        Version::Two,
+        "2 reads over 4, 3 and 1: 1, 1 and 0",
+        [&[0, 4, 3, 1, 5], &[0, 2, 5]],
+        &[9, 4, 2, 3, 5, 9],
+        &[9, 4, 0, 4, 6, 9],
+    );
+    shares.extend(two_arms(
+        Version::Two,
+        "100 reads of an arm with a 0 over 1 and 2: 50 and 50",
+        [&[0, 1, 2, 5], &[0, 3, 4, 5]],
+        &[5, 1, 1, 100, 0, 5],
+        &[5, 51, 51, 0, 0, 5],
+    ));
+    shares.extend(two_arms(
+        Version::Two,
+        "the largest sum, all but 2 reads over 1 and 2: 2^39 - 1 and 2^39 - 2",
+        [&[0, 1, 2, 5], &[0, 3, 4, 5]],
+        &[0, 1, 1, LARGEST_SUM - 2, 0, 0],
+        &[0, 549_755_813_888, 549_755_813_887, 0, 0, 0],
+    ));
+    shares
+}
+
 /// Folds by hand of a superbubble of two arms, of which the first is kept: the paths, and the counts
 /// before and after. It is folded by several budgets, and then once more.
-fn two_arms(name: &str, paths: [&[usize]; 2], before: &[u64], after: &[u64]) -> Vec<Worked> {
+fn two_arms(
+    version: Version,
+    name: &str,
+    paths: [&[usize]; 2],
+    before: &[u64],
+    after: &[u64],
+) -> Vec<Worked> {
+    let fold =
+        |name: &str, table: &_, budget, folded: &_| fold(version, name, table, budget, folded);
     let edges = paths.map(|path| path.windows(2).map(|two| (two[0], two[1])).collect::<Vec<_>>());
     let table = graphs::of_edges(&edges.concat(), before.to_vec());
     let shared = folded(1, 0, &edges[0], after);
@@ -173,10 +288,10 @@ fn unfolded(table: &Table, left: usize) -> Folded {
     Folded { table: table.clone(), folded: 0, left }
 }
 
-fn fold(name: &str, table: &Table, budget: u32, folded: &Folded) -> Worked {
-    let room = Room::of(table.counts.len(), table.targets.len());
-    let operation = Operation::Fold { budget, room, table: table.clone() };
-    Worked { name: name.to_string(), operation, answer: answers::fold(0, folded.clone(), room) }
+fn fold(version: Version, name: &str, table: &Table, budget: u32, folded: &Folded) -> Worked {
+    let operation = Operation::fold_exactly(version, budget, table.clone());
+    let answer = answers::fold(version, 0, folded.clone(), Room::taken_by(table));
+    Worked { name: name.to_string(), operation, answer }
 }
 
 // ---- the errors an analyst has met
@@ -202,16 +317,20 @@ fn errors() -> Vec<Worked> {
         judge(apart, &i, (2, 0), None),
         list(back, &h, &[(3, 0)]),
         judge(back, &h, (0, 3), None),
-        fold(inside_out, &j, 1, &j_folded),
-        fold(beside, &l, 1, &l_folded),
-        fold(beside, &l_folded.table, 1, &l_again),
+        fold(Version::One, inside_out, &j, 1, &j_folded),
         list(outside, &into_an_arm, &[]),
         judge(outside, &into_an_arm, (0, 3), None),
         list(outside, &into_the_exit, &[]),
         judge(outside, &into_the_exit, (0, 3), None),
     ];
+    for version in VERSIONS {
+        errors.push(fold(version, beside, &l, 1, &l_folded));
+        errors.push(fold(version, beside, &l_folded.table, 1, &l_again));
+    }
     // 9 reads over 2 and 1: 5 and 4
     let paths: [&[usize]; 2] = [&[0, 2, 1, 4], &[0, 3, 4]];
-    errors.extend(two_arms(heap, paths, &[2, 6, 4, 9, 2], &[2, 10, 9, 0, 2]));
+    errors.extend(two_arms(Version::One, heap, paths, &[2, 6, 4, 9, 2], &[2, 10, 9, 0, 2]));
+    // 3 reads over 2 and 1: 2 and 1
+    errors.extend(two_arms(Version::Two, heap, paths, &[2, 6, 4, 3, 2], &[2, 7, 6, 0, 2]));
     errors
 }

@@ -7,6 +7,7 @@ use crate::image;
 use crate::parts::difference;
 use crate::runs::ProgramRun;
 use crate::shapes;
+use crate::table::MOST_VERTICES;
 
 /// What the emulator tells of the calls in a run, each as its name and arguments.
 fn calls(program: &[String], run: &ProgramRun) -> Result<Vec<String>, Box<dyn std::error::Error>> {
@@ -31,10 +32,12 @@ fn one_write(program: &[String], run: &ProgramRun) -> Judged {
     demand(renames.iter().all(|&rename| rename < prints[0]), || "it prints too early".to_string())
 }
 
-/// Each program, by its words, on a large table and on one that is refused.
+/// Each program, by its words, on a large table without lengths and with them, and on one that is refused.
 pub fn all<'a>([look, show, list, judge, fold]: [&'a [String]; 5]) -> Vec<Check<'a>> {
     let mut checks = Vec::new();
-    for stream in [image::of_table(&shapes::chain(2_048).counted(1)), b"SBT".to_vec()] {
+    let chain = shapes::chain(2_048).counted(1);
+    let with_lengths = image::with_lengths(&chain, &[u16::MAX; MOST_VERTICES]);
+    for stream in [image::of_table(&chain), with_lengths, b"SBT".to_vec()] {
         let files = vec![("in.sbt".to_string(), stream.clone())];
         let runs = [
             (look, ProgramRun::look(stream.clone())),

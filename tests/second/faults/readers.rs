@@ -14,6 +14,7 @@ use crate::parts::difference;
 use crate::random::Random;
 use crate::runs::ProgramRun;
 use crate::shapes;
+use crate::versions::Version;
 use std::error::Error;
 use std::io;
 
@@ -33,9 +34,12 @@ pub struct Reader<'a> {
     least: [usize; 2],
 }
 
-/// The programs with a large table, and without one.
+/// The programs with a large table, to look at and to show the largest image with lengths, and without
+/// one.
 pub fn all<'a>([look, show, list, judge]: [&'a [String]; 4]) -> Vec<Reader<'a>> {
-    let largest = image::of_table(&graphs::largest(&mut Random::of_case(1, 0)));
+    let random = &mut Random::of_case(1, 0);
+    let largest = graphs::largest(random);
+    let largest = graphs::image(random, Version::Two, &largest);
     let chain = image::of_table(&shapes::chain(2_048).counted(1));
     let fan = image::of_table(&shapes::fan(2_048).counted(1));
     let of = |program, run: ProgramRun, least| {
