@@ -1,6 +1,7 @@
 // Whether the library and the plain C give the same answers, asked where a wrong one would differ: on the graphs A to
-// L, on small tables full of superbubbles, on damaged tables and damaged images, with exact room and one less, and on
-// both sides of each limit. Every comparison is counted, and takes in all the memory that was lent.
+// L, on small tables full of superbubbles and ties, on damaged tables and damaged images of both versions, with exact
+// room and one less, and on both sides of each limit. Every comparison is counted, and takes in all the memory that was
+// lent.
 #include "bench.h"
 
 // ---- the count
@@ -26,60 +27,62 @@ void same(const char *operation, void (*our)(void), void (*their)(void)) {
 
 // ---- one comparison of each call; bit k of its numbers says that it gave number k
 
-static u32 look_numbers, load_numbers, write_numbers, list_numbers, judge_numbers, fold_numbers;
+#define COMPARED(CALL, NAME, CALLS)                                                                                  \
+    static u32 CALL##_numbers;                                                                                       \
+    static void CALL(void) {                                                                                         \
+        same(NAME, gohardim_##CALLS, plain_##CALLS);                                                                 \
+        CALL##_numbers |= 1u << ours.number;                                                                         \
+    }
 
-static void look(void) {
-    same("look", gohardim_looks, plain_looks);
-    look_numbers |= 1u << ours.number;
-}
+COMPARED(look, "look", looks)
+COMPARED(load, "load", loads)
+COMPARED(write, "write", writes)
+COMPARED(write_lengths, "write, lengths", writes_lengths)
+COMPARED(list, "list", lists)
+COMPARED(judge, "judge", judges)
+COMPARED(fold, "fold", folds)
+COMPARED(fold_weakest, "fold, weakest", folds_weakest)
 
-static void load(void) {
-    same("load", gohardim_loads, plain_loads);
-    load_numbers |= 1u << ours.number;
-}
-
-static void write(void) {
-    same("write", gohardim_writes, plain_writes);
-    write_numbers |= 1u << ours.number;
-}
-
-static void list(void) {
-    same("list", gohardim_lists, plain_lists);
-    list_numbers |= 1u << ours.number;
-}
-
-static void judge(void) {
-    same("judge", gohardim_judges, plain_judges);
-    judge_numbers |= 1u << ours.number;
-}
-
-static void fold(void) {
-    same("fold", gohardim_folds, plain_folds);
-    fold_numbers |= 1u << ours.number;
-}
-
-static void look_and_load(void) {
+static void look_and_load(void) { // the image at hand
     look();
     load();
 }
 
-static void each_call(void) { // on the table at hand, and on its image
-    make_image();
-    look_and_load();
+static void look_and_load_both(void) { // the image of each version
+    for (u32 version = 1; version <= 2; version++) {
+        make_image(version);
+        look_and_load();
+    }
+}
+
+static void write_both(void) {
     write();
+    write_lengths();
+}
+
+static void fold_both(void) {
+    fold();
+    fold_weakest();
+}
+
+static void each_call(void) { // on the table at hand, and on its images
+    look_and_load_both();
+    write_both();
     list();
     judge();
-    fold();
+    fold_both();
 }
 
 // ---- a table that is not damaged: rooms, budgets and pairs
 
-static void lend_exact_room(void) {
+static void lend_exact_room(u32 version) { // and the image of this version
+    make_image(version);
     lent.out = 2 * table.n;
     lent.starts2 = table.n + 1;
     lent.targets2 = table.m;
     lent.counts2 = table.n;
-    lent.image2 = 13 + 4 * (table.n + 1) + 4 * table.m + 8 * table.n;
+    lent.lengths2 = version == 2 ? table.n : 0;
+    lent.image2 = lent.image;
 }
 
 static void with_one_less(usize *length, void (*call)(void)) {
@@ -89,41 +92,50 @@ static void with_one_less(usize *length, void (*call)(void)) {
     ++*length;
 }
 
-static void load_and_fold(void) {
-    load();
-    fold();
+static void load_and_fold_both(void) {
+    look_and_load_both();
+    fold_both();
 }
 
-static void compare_rooms(void) { // more than is needed, none, exactly that, and each by itself one less
+static void compare_rooms(void) { // more than is needed, none, exactly that of each version, and each alone one less
     each_call();
-    lent.out = lent.starts2 = lent.targets2 = lent.counts2 = lent.image2 = 0;
+    lent.out = lent.starts2 = lent.targets2 = lent.counts2 = lent.lengths2 = lent.image2 = 0;
     each_call();
-    lend_exact_room();
+    lend_exact_room(1);
+    each_call();
+    with_one_less(&lent.image2, write_both);
+    lend_exact_room(2);
     each_call();
     with_one_less(&lent.out, list);
-    with_one_less(&lent.starts2, load_and_fold);
-    with_one_less(&lent.targets2, load_and_fold);
-    with_one_less(&lent.counts2, load_and_fold);
-    with_one_less(&lent.image2, write);
+    with_one_less(&lent.starts2, load_and_fold_both);
+    with_one_less(&lent.targets2, load_and_fold_both);
+    with_one_less(&lent.counts2, load_and_fold_both);
+    with_one_less(&lent.lengths2, look_and_load_both);
+    with_one_less(&lent.image2, write_both);
 }
 
 static void compare_there_and_back(void) { // what is loaded is the table, and what is written is its image
-    make_image();
-    gohardim_loads();
-    _Bool loaded = ours.number == 0 && ours.vertices == table.n && ours.edges == table.m &&
-                   memcmp(ours.starts2, table.starts, (table.n + 1) * sizeof *table.starts) == 0 &&
-                   memcmp(ours.targets2, table.targets, table.m * sizeof *table.targets) == 0 &&
-                   memcmp(ours.counts2, table.counts, table.n * sizeof *table.counts) == 0;
-    count(loaded, "load", "not the table of the image");
-    gohardim_writes();
-    _Bool written = ours.number == 0 && ours.length == lent.image && memcmp(ours.image2, image, lent.image) == 0;
-    count(written, "write", "not the image of the table");
+    for (u32 version = 1; version <= 2; version++) {
+        make_image(version);
+        gohardim_loads();
+        _Bool loaded = ours.number == 0 && ours.version == version && ours.vertices == table.n &&
+                       ours.edges == table.m &&
+                       memcmp(ours.starts2, table.starts, (table.n + 1) * sizeof *table.starts) == 0 &&
+                       memcmp(ours.targets2, table.targets, table.m * sizeof *table.targets) == 0 &&
+                       memcmp(ours.counts2, table.counts, table.n * sizeof *table.counts) == 0;
+        if (version == 2)
+            loaded = loaded && memcmp(ours.lengths2, table.lengths, table.n * sizeof *table.lengths) == 0;
+        count(loaded, "load", "not the table of the image");
+        version == 2 ? gohardim_writes_lengths() : gohardim_writes();
+        _Bool written = ours.number == 0 && ours.length == lent.image && memcmp(ours.image2, image, lent.image) == 0;
+        count(written, "write", "not the image of the table");
+    }
 }
 
-static void compare_budgets(void) { // 0, 1, 2, 3, and the powers of two; the rooms are compared with ALL
+static void compare_budgets(void) { // 0, 1, 2, 3, and the powers of four; the rooms are compared with ALL
     struct asked before = asked;
-    for (asked.budget = 0; asked.budget < 4; asked.budget++) fold();
-    for (asked.budget = 4; asked.budget != 0; asked.budget *= 2) fold();
+    for (asked.budget = 0; asked.budget < 4; asked.budget++) fold_both();
+    for (asked.budget = 4; asked.budget != 0; asked.budget *= 4) fold_both();
     asked = before;
 }
 
@@ -172,10 +184,21 @@ static void with_largest_sums(u64 *count) { // reached, passed by one, and so la
     *count = before;
 }
 
+static void with_some_lengths(u16 *length) { // 0, which is refused, and those next to it or with a byte that is 0
+    static const u16 some[] = {0, 1, 255, 256, 65280, 65535};
+    u16 before = *length;
+    for (usize k = 0; k < sizeof some / sizeof *some; k++) {
+        *length = some[k];
+        look_and_load_both();
+        write_both();
+    }
+    *length = before;
+}
+
 static void compare_damages(void) {
-    usize *const lengths[] = {&lent.starts,  &lent.targets,  &lent.counts,  &lent.out,
-                              &lent.starts2, &lent.targets2, &lent.counts2, &lent.image2};
-    lend_exact_room();
+    usize *const lengths[] = {&lent.starts,  &lent.targets,  &lent.counts,  &lent.lengths,  &lent.out,
+                              &lent.starts2, &lent.targets2, &lent.counts2, &lent.lengths2, &lent.image2};
+    lend_exact_room(2);
     for (usize k = 0; k < sizeof lengths / sizeof *lengths; k++) {
         with_one_less(lengths[k], each_call);
         ++*lengths[k];
@@ -185,13 +208,13 @@ static void compare_damages(void) {
     for (usize v = 0; v <= table.n; v++) with_each_number(&table.starts[v], table.m + 1);
     for (usize k = 0; k < table.m; k++) with_each_number(&table.targets[k], table.n);
     for (usize v = 0; v < table.n; v++) with_largest_sums(&table.counts[v]);
+    for (usize v = 0; v < table.n; v++) with_some_lengths(&table.lengths[v]);
 }
 
-// ---- an image that is cut short, has a byte more, or is damaged at one byte
+// ---- an image that is cut short, has a byte more, is damaged at one byte, or has another version
 
-static void compare_image_damages(void) {
-    lend_exact_room();
-    make_image();
+static void compare_image_damages(u32 version) {
+    lend_exact_room(version);
     usize length = lent.image;
     for (lent.image = 0; lent.image <= length + 1; lent.image++) look_and_load();
     lent.image = length;
@@ -206,46 +229,62 @@ static void compare_image_damages(void) {
     }
 }
 
-static void compare_image_limits(void) { // n and m at their limits and past them, in an image that lacks a byte
+static void compare_versions(void) { // up to 259, in an image as long as version 1 asks for, and version 2
+    make_graph('K');
+    for (u32 version = 1; version <= 2; version++) {
+        make_image(version);
+        for (u32 other = 0; other < 260; other++) {
+            image[3] = other;
+            image[4] = other >> 8;
+            look_and_load();
+        }
+    }
+}
+
+static void compare_image_limits(u32 version) { // n and m at their limits and past them, in an image that lacks a byte
     make_graph('A');
     for (table.n = MOST; table.n <= MOST + 1; table.n++)
         for (table.m = MOST_EDGES; table.m <= MOST_EDGES + 1; table.m++) {
-            make_image();
+            make_image(version);
             lent.image--;
             look_and_load();
         }
 }
 
-// ---- of several numbers the first: graph K with every choice of ten damages, each of which earns one number
+// ---- of several numbers the first: graph K with every choice of twelve damages, each of which earns one number; the
+// last two are of its lengths, and a choice with them is put to their write alone
 
 static void compare_choices(void) {
-    for (u32 choice = 0; choice < 1u << 10; choice++) {
+    for (u32 choice = 0; choice < 1u << 12; choice++) {
         make_graph('K');
-        lend_exact_room();
-        if (choice & 1) lent.starts = 0;                             // 1
-        if (choice & 2) lent.targets = MOST_EDGES + 1;               // 2
-        if (choice & 4) table.starts[0] = 1;                         // 3
-        if (choice & 8) table.targets[7] = table.n;                  // 4
-        if (choice & 16) table.targets[1] = table.targets[0];        // 5
-        if (choice & 32) lent.counts--;                              // 6
-        if (choice & 64) table.counts[0] = MOST_COUNTED;             // 7
-        if (choice & 128) lent.out--, lent.counts2--, lent.image2--; // 8
-        if (choice & 256) table.targets[2] = 1;                      // 9, by a self-loop
-        if (choice & 512) asked.s = table.n;                         // 13
-        each_call();
+        lend_exact_room(2);
+        if (choice & 1) lent.starts = 0;                               // 1
+        if (choice & 2) lent.targets = MOST_EDGES + 1;                 // 2
+        if (choice & 4) table.starts[0] = 1;                           // 3
+        if (choice & 8) table.targets[7] = table.n;                    // 4
+        if (choice & 16) table.targets[1] = table.targets[0];          // 5
+        if (choice & 32) lent.counts--;                                // 6
+        if (choice & 64) table.counts[0] = MOST_COUNTED;               // 7
+        if (choice & 128) lent.out--, lent.counts2--, lent.image2 = 0; // 8
+        if (choice & 256) table.targets[2] = 1;                        // 9, by a self-loop
+        if (choice & 512) asked.s = table.n;                           // 13
+        if (choice & 1024) lent.lengths--;                             // 6
+        if (choice & 2048) table.lengths[3] = 0;                       // 20
+        choice < 1u << 10 ? each_call() : write_lengths();
     }
 }
 
-static void compare_image_choices(void) {
-    for (u32 choice = 0; choice < 1u << 10; choice++) {
+static void compare_image_choices(u32 version) {
+    for (u32 choice = 0; choice < 1u << 11; choice++) {
         make_graph('K');
-        lend_exact_room();
+        lend_exact_room(version);
         if (choice & 32) table.starts[0] = 1;                  // 3
         if (choice & 64) table.targets[7] = table.n;           // 4
         if (choice & 128) table.targets[1] = table.targets[0]; // 5
         if (choice & 256) table.counts[0] = MOST_COUNTED;      // 7
-        if (choice & 512) lent.targets2--;                     // 8
-        make_image();
+        if (choice & 512) table.lengths[3] = 0;                // 20, of version 2
+        if (choice & 1024) lent.targets2--;                    // 8
+        make_image(version);
         if (choice & 1) image[2]++;    // 10
         if (choice & 2) image[4]++;    // 11
         if (choice & 4) image[8]++;    // 1
@@ -255,6 +294,16 @@ static void compare_image_choices(void) {
     }
 }
 
+// ---- the largest counts by which two arms can differ, on the second the larger one
+
+static void compare_halves(void) {
+    make_graph('D');
+    table.counts[0] = table.counts[3] = 0;
+    table.counts[1] = MOST_COUNTED / 2;
+    table.counts[2] = MOST_COUNTED / 2 + 1;
+    fold_both();
+}
+
 // ---- the largest tables, and those one larger
 
 static void compare_limits(void) {
@@ -262,6 +311,9 @@ static void compare_limits(void) {
         make_chain(n);
         compare_rooms();
         with_largest_sums(&table.counts[n - 1]);
+        with_some_lengths(&table.lengths[0]);
+        with_some_lengths(&table.lengths[n / 2]);
+        with_some_lengths(&table.lengths[n - 1]);
     }
     make_superbubbles(MOST);
     compare_budgets();
@@ -299,13 +351,17 @@ static void compare_images(void) {
     for (char letter = 'A'; letter <= 'L'; letter++) {
         make_graph(letter);
         compare_there_and_back();
-        compare_image_damages();
+        compare_image_damages(1);
+        compare_image_damages(2);
     }
     make_random("acyclic", MOST, MOST_EDGES, 0);
     compare_there_and_back();
     compare_rooms();
-    compare_image_limits();
-    compare_image_choices();
+    compare_versions();
+    for (u32 version = 1; version <= 2; version++) {
+        compare_image_limits(version);
+        compare_image_choices(version);
+    }
 }
 
 // ---- all of it
@@ -339,15 +395,19 @@ void compare_answers(void) {
         compare_budgets();
     }
     compare_choices();
+    compare_halves();
     compare_limits();
     // A side that takes a number far too large reads far outside of what it was lent, and may not come back.
     if (failed == 0) compare_far();
     if (failed == 0) compare_images();
     table.name = "all cases together";
-    count(look_numbers == (0xbf | 7u << 10), "look", "the numbers given are not 0 to 5, 7 and 10 to 12");
-    count(load_numbers == (0x1bf | 7u << 10), "load", "the numbers given are not 0 to 5, 7, 8 and 10 to 12");
-    count(write_numbers == 0x1ff, "write", "the numbers given are not 0 to 8");
+    const u32 of_image = 0xbf | 7u << 10 | 1u << 20, of_table = 0x1ff;
+    count(look_numbers == of_image, "look", "the numbers given are not 0 to 5, 7, 10 to 12 and 20");
+    count(load_numbers == (of_image | 1u << 8), "load", "the numbers given are not 0 to 5, 7, 8, 10 to 12 and 20");
+    count(write_numbers == of_table, "write", "the numbers given are not 0 to 8");
+    count(write_lengths_numbers == (of_table | 1u << 20), "write, lengths", "the numbers given are not 0 to 8 and 20");
     count(list_numbers == (0x3f | 1u << 8), "list", "the numbers given are not 0 to 5 and 8");
     count(judge_numbers == (0x3f | 1u << 13), "judge", "the numbers given are not 0 to 5 and 13");
     count(fold_numbers == 0x3ff, "fold", "the numbers given are not 0 to 9");
+    count(fold_weakest_numbers == 0x3ff, "fold, weakest", "the numbers given are not 0 to 9");
 }

@@ -1,8 +1,9 @@
-// Times the library's look, load and write, list, judge and fold against the same in plain C, on the tables of tables.c
-// and their images, and looks how deep the library's calls reach into the stack. The two sides take turns, the fastest
-// of many rounds counts, and each answer is compared: a difference ends the run. With the argument `answers` nothing is
-// timed: it compares the answers on the same tables and on those of answers.c, looks whether the stack stays below
-// 96 KB and that of a fold is the same on each table, to 1 KB, and prints the count.
+// Times the library's look, load and two writes, list, judge and two folds against the same in plain C, on the tables
+// of tables.c and their images of both versions, and looks how deep the library's calls reach into the stack. The two
+// sides take turns, the fastest of many rounds counts, and each answer is compared: a difference ends the run. With the
+// argument `answers` nothing is timed: it compares the answers on the same tables and on those of answers.c, looks
+// whether the stack stays below 96 KB and that of a fold, of either version, is the same on each table, to 1 KB, and
+// prints the count.
 #include "bench.h"
 
 struct timespec {
@@ -21,20 +22,34 @@ void give_up(const char *why) {
 
 struct answers ours, theirs;
 
+#define FOLDS(NAME, FOLD, ANSWERS)                                                                                   \
+    void NAME(void) {                                                                                                \
+        struct answers *a = &ANSWERS;                                                                                \
+        a->number = FOLD(table.starts, lent.starts, table.targets, lent.targets, table.counts, lent.counts,          \
+                         asked.budget, a->starts2, lent.starts2, a->targets2, lent.targets2, a->counts2,             \
+                         lent.counts2, &a->folded, &a->left, &a->edges);                                             \
+    }
+
 #define SIDE(NAME, ANSWERS)                                                                                          \
     void NAME##_looks(void) {                                                                                        \
         struct answers *a = &ANSWERS;                                                                                \
-        a->number = NAME##_look(image, lent.image, &a->vertices, &a->edges);                                         \
+        a->number = NAME##_look(image, lent.image, &a->version, &a->vertices, &a->edges);                            \
     }                                                                                                                \
     void NAME##_loads(void) {                                                                                        \
         struct answers *a = &ANSWERS;                                                                                \
         a->number = NAME##_load(image, lent.image, a->starts2, lent.starts2, a->targets2, lent.targets2, a->counts2, \
-                                lent.counts2, &a->vertices, &a->edges);                                              \
+                                lent.counts2, a->lengths2, lent.lengths2, &a->version, &a->vertices, &a->edges);     \
     }                                                                                                                \
     void NAME##_writes(void) {                                                                                       \
         struct answers *a = &ANSWERS;                                                                                \
         a->number = NAME##_write(table.starts, lent.starts, table.targets, lent.targets, table.counts, lent.counts,  \
                                  a->image2, lent.image2, &a->length);                                                \
+    }                                                                                                                \
+    void NAME##_writes_lengths(void) {                                                                               \
+        struct answers *a = &ANSWERS;                                                                                \
+        a->number = NAME##_write_lengths(table.starts, lent.starts, table.targets, lent.targets, table.counts,       \
+                                         lent.counts, table.lengths, lent.lengths, a->image2, lent.image2,           \
+                                         &a->length);                                                                \
     }                                                                                                                \
     void NAME##_lists(void) {                                                                                        \
         struct answers *a = &ANSWERS;                                                                                \
@@ -54,12 +69,8 @@ struct answers ours, theirs;
                 a->sizes[asked.s * 64 + asked.t] = 2 * a->size + a->yes;                                             \
             }                                                                                                        \
     }                                                                                                                \
-    void NAME##_folds(void) {                                                                                        \
-        struct answers *a = &ANSWERS;                                                                                \
-        a->number = NAME##_fold(table.starts, lent.starts, table.targets, lent.targets, table.counts, lent.counts,   \
-                                asked.budget, a->starts2, lent.starts2, a->targets2, lent.targets2, a->counts2,      \
-                                lent.counts2, &a->folded, &a->left, &a->edges);                                      \
-    }
+    FOLDS(NAME##_folds, NAME##_fold, ANSWERS)                                                                        \
+    FOLDS(NAME##_folds_weakest, NAME##_fold_weakest, ANSWERS)
 
 SIDE(gohardim, ours)
 SIDE(plain, theirs)
@@ -67,8 +78,8 @@ SIDE(plain, theirs)
 // Writes over what an earlier call left where the next one will have its working arrays: with n and 1 in turns, which
 // mean something in each of them.
 static __attribute__((noinline)) void soil_stack(void) {
-    u32 soiled[1 << 14];
-    for (usize k = 0; k < 1 << 14; k++) soiled[k] = k % 2 == 0 ? table.n : 1;
+    u64 soiled[1 << 13];
+    for (usize k = 0; k < 1 << 13; k++) soiled[k] = 1ul << 32 | table.n;
     __asm__ volatile("" : : "r"(soiled) : "memory");
 }
 
@@ -134,7 +145,7 @@ static struct times measure(void (*our)(void), void (*their)(void), double budge
 static double worst;
 static _Bool timing = 1;
 
-static void row(const char *operation, void (*our)(void), void (*their)(void), usize calls) {
+static void row_of(usize calls, const char *operation, void (*our)(void), void (*their)(void)) {
     if (!timing) {
         same(operation, our, their);
         return;
@@ -147,22 +158,35 @@ static void row(const char *operation, void (*our)(void), void (*their)(void), u
     fflush(0);
 }
 
-static void look_load_and_write(void) {
-    make_image();
-    row("look", gohardim_looks, plain_looks, 1);
-    row("load", gohardim_loads, plain_loads, 1);
-    row("write", gohardim_writes, plain_writes, 1);
+static void row(const char *operation, void (*our)(void), void (*their)(void)) {
+    row_of(1, operation, our, their);
+}
+
+// Look, load and write of the table at hand, in both versions, each in a row or by its depth.
+static void look_load_and_write(void (*shown)(const char *operation, void (*our)(void), void (*their)(void))) {
+    make_image(1);
+    shown("look", gohardim_looks, plain_looks);
+    shown("load", gohardim_loads, plain_loads);
+    shown("write", gohardim_writes, plain_writes);
+    make_image(2);
+    shown("look, lengths", gohardim_looks, plain_looks);
+    shown("load, lengths", gohardim_loads, plain_loads);
+    shown("write, lengths", gohardim_writes_lengths, plain_writes_lengths);
 }
 
 static void fold(u32 budget) {
     asked.budget = budget;
     gohardim_folds();
     const char *accepted = budget == 0 ? "fold, budget 0" : "fold";
-    row(ours.number == 9 ? "fold, refused 9" : accepted, gohardim_folds, plain_folds, 1);
+    row(ours.number == 9 ? "fold, refused 9" : accepted, gohardim_folds, plain_folds);
+}
+
+static void fold_weakest(void) {
+    row("fold, weakest", gohardim_folds_weakest, plain_folds_weakest);
 }
 
 static void list_and_fold(void) {
-    row("list", gohardim_lists, plain_lists, 1);
+    row("list", gohardim_lists, plain_lists);
     fold(ALL);
 }
 
@@ -172,34 +196,40 @@ static void heading(void) {
 
 static void compare(void) {
     make_chain(2048);
-    look_load_and_write();
+    look_load_and_write(row);
     list_and_fold();
+    fold_weakest();
     fold(0);
     make_cycle(2048);
     list_and_fold();
     make_nested(2040);
-    look_load_and_write();
+    look_load_and_write(row);
     list_and_fold();
+    fold_weakest();
     make_comb(2048);
     list_and_fold();
+    fold_weakest();
     make_random("acyclic", 2048, 8192, 0);
-    look_load_and_write();
+    look_load_and_write(row);
     list_and_fold();
+    fold_weakest();
     make_random("random", 2048, 8192, 1);
     list_and_fold();
     make_layers(2048);
     fold(ALL);
+    fold_weakest();
     for (usize inner = 1; inner <= 64; inner *= 64) {
         make_two_arms(2048, inner);
         fold(ALL);
+        fold_weakest();
     }
     make_nested(64);
-    look_load_and_write();
-    row("judge, each pair", gohardim_judges_each, plain_judges_each, table.n * table.n);
+    look_load_and_write(row);
+    row_of(table.n * table.n, "judge, each pair", gohardim_judges_each, plain_judges_each);
     make_nested(2040);
-    row("judge, one pair", gohardim_judges, plain_judges, 1);
+    row("judge, one pair", gohardim_judges, plain_judges);
     make_comb(2048);
-    row("judge, one pair", gohardim_judges, plain_judges, 1);
+    row("judge, one pair", gohardim_judges, plain_judges);
 }
 
 // ---- growth
@@ -251,30 +281,31 @@ static usize deepest(void (*call)(void)) {
     return STACK - low;
 }
 
-static usize depth(const char *operation, void (*our)(void), void (*their)(void)) { // of the library's call
+static void depth(const char *operation, void (*our)(void), void (*their)(void)) { // of the library's call
     usize bytes = deepest(our);
     if (!timing)
         count(bytes < MOST_STACK, operation, "the stack reaches 96 KB");
     else
-        printf("%-10s %-10s %6lu %6lu %10lu %10lu\n", operation, table.name, table.n, table.m, bytes, deepest(their));
-    return bytes;
+        printf("%-16s %-10s %6lu %6lu %10lu %10lu\n", operation, table.name, table.n, table.m, bytes, deepest(their));
 }
 
 static void depths(void) {
     make_random("acyclic", 2048, 8192, 0);
-    make_image();
-    depth("look", gohardim_looks, plain_looks);
-    depth("load", gohardim_loads, plain_loads);
-    depth("write", gohardim_writes, plain_writes);
+    look_load_and_write(depth);
     static void (*const make_full[])(usize) = {make_chain, make_nested, make_comb};
+    static void (*const folds[])(void) = {gohardim_folds, gohardim_folds_weakest};
     usize least = STACK, most = 0; // of the folds
     for (usize k = 0; k < sizeof make_full / sizeof *make_full; k++) {
         make_full[k](make_full[k] == make_nested ? 2040 : 2048);
         depth("list", gohardim_lists, plain_lists);
         depth("judge", gohardim_judges, plain_judges);
-        usize bytes = depth("fold", gohardim_folds, plain_folds);
-        if (bytes < least) least = bytes;
-        if (bytes > most) most = bytes;
+        depth("fold", gohardim_folds, plain_folds);
+        depth("fold, weakest", gohardim_folds_weakest, plain_folds_weakest);
+        for (usize i = 0; i < sizeof folds / sizeof *folds; i++) {
+            usize bytes = deepest(folds[i]);
+            if (bytes < least) least = bytes;
+            if (bytes > most) most = bytes;
+        }
     }
     if (!timing) count(most - least < MOST_APART, "fold", "the stack differs from table to table by 1 KB");
 }
@@ -294,7 +325,7 @@ int main(int arguments, char **argument) {
     printf("largest ratio: %.3f\n", worst);
     growth();
     printf("\nstack, in bytes\n");
-    printf("%-10s %-10s %6s %6s %10s %10s\n", "operation", "table", "n", "m", "verified", "plain C");
+    printf("%-16s %-10s %6s %6s %10s %10s\n", "operation", "table", "n", "m", "verified", "plain C");
     depths();
     return 0;
 }

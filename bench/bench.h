@@ -7,28 +7,29 @@ int snprintf(char *to, usize size, const char *format, ...);
 int fflush(void *stream);
 void give_up(const char *why);
 
-enum { MOST = 2048, MOST_EDGES = 8192, MOST_BYTES = 57361, BEHIND = 64 };
+enum { MOST = 2048, MOST_EDGES = 8192, MOST_BYTES = 61457, BEHIND = 64 };
 #define MOST_COUNTED 1099511627775ul
 #define ALL 4294967295u
 
 // ---- tables.c
 
-// The table at hand, which may have one vertex and one edge more than a table can have.
+// The table at hand with its lengths, which may have one vertex and one edge more than a table can have.
 struct table {
     const char *name;
     usize n, m;
     u32 starts[MOST + 2], targets[MOST_EDGES + 1];
     u64 counts[MOST + 1];
+    u16 lengths[MOST + 1];
 };
 extern struct table table;
 
 // The image at hand, which may be that of a table with one vertex and one edge more, and may be lent with a byte more.
-extern u8 image[MOST_BYTES + 12 + 4 + 1 + BEHIND];
+extern u8 image[MOST_BYTES + 14 + 4 + 1 + BEHIND];
 
 // How many numbers of each slice are lent: of those that are read, and of those that are stored to.
 struct lent {
-    usize starts, targets, counts, image;
-    usize out, starts2, targets2, counts2, image2;
+    usize starts, targets, counts, lengths, image;
+    usize out, starts2, targets2, counts2, lengths2, image2;
 };
 extern struct lent lent;
 
@@ -52,18 +53,19 @@ void make_superbubbles(usize n);
 void make_arms(usize n, u32 t);
 void make_drawn(u32 which, u32 most);
 
-// Makes the image of the table at hand, sound or not, and lends it.
-void make_image(void);
+// Makes the image of the table at hand, sound or not, of version 2 with its lengths, and lends it.
+void make_image(u32 version);
 
 // ---- bench.c
 
 // What one side answers: the number, the other fields, and the slices that are stored to.
 struct answers {
-    u32 number, size;
+    u32 number, size, version;
     usize found, folded, left, vertices, edges, length;
     _Bool yes;
     u32 out[2 * MOST + 2], starts2[MOST + 2], targets2[MOST_EDGES + 1];
     u64 counts2[MOST + 1];
+    u16 lengths2[MOST + 1];
     u32 sizes[64 * 64]; // of every pair, where n is at most 64
     u8 image2[sizeof image];
 };
@@ -74,9 +76,11 @@ extern struct answers ours, theirs;
     void NAME##_looks(void);                                                                                         \
     void NAME##_loads(void);                                                                                         \
     void NAME##_writes(void);                                                                                        \
+    void NAME##_writes_lengths(void);                                                                                \
     void NAME##_lists(void);                                                                                         \
     void NAME##_judges(void);                                                                                        \
-    void NAME##_folds(void);
+    void NAME##_folds(void);                                                                                         \
+    void NAME##_folds_weakest(void);
 
 CALLS_AT_HAND(gohardim)
 CALLS_AT_HAND(plain)

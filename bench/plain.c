@@ -1,5 +1,5 @@
-// Look, load and write, list, judge and fold in plain C: the algorithms of the crates step by step, with the same
-// checks, the same working arrays and the same answers. The measure that the library is held against.
+// Look, load and the two writes, list, judge and the two folds in plain C: the algorithms of the crates step by step,
+// with the same checks, the same working arrays and the same answers. The measure that the library is held against.
 #include "plain.h"
 
 enum { MOST = 2048, MOST_EDGES = 8192 };
@@ -37,23 +37,35 @@ static u32 check_counts(const u64 *counts, usize counts_len, usize n) {
 
 enum { HEADER = 13 };
 
-static usize image_length(usize n, usize m) {
-    return HEADER + 4 * (n + 1) + 4 * m + 8 * n;
+// How many lengths an image has: one a vertex in version 2, and else none.
+static usize length_count(u32 version, usize n) {
+    return version == 2 ? n : 0;
+}
+
+static usize image_length(u32 version, usize n, usize m) {
+    return HEADER + 4 * (n + 1) + 4 * m + 8 * n + 2 * length_count(version, n);
+}
+
+static u16 half_word(const u8 *from) {
+    return from[0] | from[1] << 8;
 }
 
 static u32 word(const u8 *from) {
-    return from[0] | from[1] << 8 | from[2] << 16 | (u32)from[3] << 24;
+    return half_word(from) | (u32)half_word(from + 2) << 16;
 }
 
 static u64 long_word(const u8 *from) {
     return word(from) | (u64)word(from + 4) << 32;
 }
 
-static void put_word(u8 *to, u32 x) {
+static void put_half_word(u8 *to, u16 x) {
     to[0] = x;
     to[1] = x >> 8;
-    to[2] = x >> 16;
-    to[3] = x >> 24;
+}
+
+static void put_word(u8 *to, u32 x) {
+    put_half_word(to, x);
+    put_half_word(to + 2, x >> 16);
 }
 
 static void put_long_word(u8 *to, u64 x) {
@@ -61,30 +73,35 @@ static void put_long_word(u8 *to, u64 x) {
     put_word(to + 4, x >> 32);
 }
 
-// 10, 11, 1, 2, 12, or 0 with n and m.
-static u32 check_header(const u8 *image, usize image_len, usize *n, usize *m) {
+// 10, 11, 1, 2, 12, or 0 with version, n and m.
+static u32 check_header(const u8 *image, usize image_len, u32 *version, usize *n, usize *m) {
     if (image_len < HEADER || image[0] != 'S' || image[1] != 'B' || image[2] != 'T') return 10;
-    if (image[3] != 1 || image[4] != 0) return 11;
+    *version = half_word(image + 3);
+    if (*version != 1 && *version != 2) return 11;
     *n = word(image + 5);
     if (*n > MOST) return 1;
     *m = word(image + 9);
     if (*m > MOST_EDGES) return 2;
-    if (image_len != image_length(*n, *m)) return 12;
+    if (image_len != image_length(*version, *n, *m)) return 12;
     return 0;
 }
 
-static void lay(const u8 *image, usize n, usize m, u32 *starts, u32 *targets, u64 *counts) {
+static void lay(const u8 *image, usize n, usize m, usize lengths_len, u32 *starts, u32 *targets, u64 *counts,
+                u16 *lengths) {
     const u8 *at = image + HEADER;
     for (usize v = 0; v < n + 1; v++) starts[v] = word(at + 4 * v);
     at += 4 * (n + 1);
     for (usize k = 0; k < m; k++) targets[k] = word(at + 4 * k);
     at += 4 * m;
     for (usize v = 0; v < n; v++) counts[v] = long_word(at + 8 * v);
+    at += 8 * n;
+    for (usize v = 0; v < lengths_len; v++) lengths[v] = half_word(at + 2 * v);
 }
 
-// 3, 4, 5, 7, or 0, of the table where it stands in the image.
-static u32 check_in_place(const u8 *image, usize n, usize m) {
+// 3, 4, 5, 7, 20, or 0, of table and lengths where they stand in the image.
+static u32 check_in_place(const u8 *image, u32 version, usize n, usize m) {
     const u8 *starts = image + HEADER, *targets = starts + 4 * (n + 1), *counts = targets + 4 * m;
+    const u8 *lengths = counts + 8 * n;
     if (word(starts) != 0) return 3;
     for (usize v = 0; v < n; v++)
         if (word(starts + 4 * (v + 1)) < word(starts + 4 * v)) return 3;
@@ -100,48 +117,58 @@ static u32 check_in_place(const u8 *image, usize n, usize m) {
         if (count > rest) return 7;
         rest -= count;
     }
+    for (usize v = 0; v < length_count(version, n); v++)
+        if (half_word(lengths + 2 * v) == 0) return 20;
     return 0;
 }
 
-u32 plain_look(const u8 *image, usize image_len, usize *vertices, usize *edges) {
+u32 plain_look(const u8 *image, usize image_len, u32 *version, usize *vertices, usize *edges) {
+    *version = 0;
     *vertices = *edges = 0;
+    u32 said;
     usize n, m;
-    u32 number = check_header(image, image_len, &n, &m);
+    u32 number = check_header(image, image_len, &said, &n, &m);
     if (number != 0) return number;
-    number = check_in_place(image, n, m);
+    number = check_in_place(image, said, n, m);
     if (number != 0) return number;
+    *version = said;
     *vertices = n;
     *edges = m;
     return 0;
 }
 
 u32 plain_load(const u8 *image, usize image_len, u32 *starts, usize starts_len, u32 *targets, usize targets_len,
-               u64 *counts, usize counts_len, usize *vertices, usize *edges) {
-    u32 number = plain_look(image, image_len, vertices, edges);
+               u64 *counts, usize counts_len, u16 *lengths, usize lengths_len, u32 *version, usize *vertices,
+               usize *edges) {
+    u32 number = plain_look(image, image_len, version, vertices, edges);
     if (number != 0) return number;
-    usize n = *vertices, m = *edges;
-    if (starts_len < n + 1 || targets_len < m || counts_len < n) {
+    usize n = *vertices, m = *edges, needed = length_count(*version, n);
+    if (starts_len < n + 1 || targets_len < m || counts_len < n || lengths_len < needed) {
+        *version = 0;
         *vertices = *edges = 0;
         return 8;
     }
-    lay(image, n, m, starts, targets, counts);
+    lay(image, n, m, needed, starts, targets, counts, lengths);
     return 0;
 }
 
-u32 plain_write(const u32 *starts, usize starts_len, const u32 *targets, usize m, const u64 *counts, usize counts_len,
-                u8 *image, usize image_len, usize *length) {
+// Writes the image of a version; in version 1 the lengths are none.
+static u32 write(u32 version, const u32 *starts, usize starts_len, const u32 *targets, usize m, const u64 *counts,
+                 usize counts_len, const u16 *lengths, usize lengths_len, u8 *image, usize image_len, usize *length) {
     *length = 0;
     u32 number = check(starts, starts_len, targets, m);
     if (number != 0) return number;
     usize n = starts_len - 1;
+    if (lengths_len != length_count(version, n)) return 6;
     number = check_counts(counts, counts_len, n);
     if (number != 0) return number;
-    if (image_len < image_length(n, m)) return 8;
+    for (usize v = 0; v < lengths_len; v++)
+        if (lengths[v] == 0) return 20;
+    if (image_len < image_length(version, n, m)) return 8;
     image[0] = 'S';
     image[1] = 'B';
     image[2] = 'T';
-    image[3] = 1;
-    image[4] = 0;
+    put_half_word(image + 3, version);
     put_word(image + 5, n);
     put_word(image + 9, m);
     u8 *at = image + HEADER;
@@ -150,8 +177,21 @@ u32 plain_write(const u32 *starts, usize starts_len, const u32 *targets, usize m
     for (usize k = 0; k < m; k++) put_word(at + 4 * k, targets[k]);
     at += 4 * m;
     for (usize v = 0; v < n; v++) put_long_word(at + 8 * v, counts[v]);
-    *length = image_length(n, m);
+    at += 8 * n;
+    for (usize v = 0; v < lengths_len; v++) put_half_word(at + 2 * v, lengths[v]);
+    *length = image_length(version, n, m);
     return 0;
+}
+
+u32 plain_write(const u32 *starts, usize starts_len, const u32 *targets, usize m, const u64 *counts, usize counts_len,
+                u8 *image, usize image_len, usize *length) {
+    return write(1, starts, starts_len, targets, m, counts, counts_len, 0, 0, image, image_len, length);
+}
+
+u32 plain_write_lengths(const u32 *starts, usize starts_len, const u32 *targets, usize m, const u64 *counts,
+                        usize counts_len, const u16 *lengths, usize lengths_len, u8 *image, usize image_len,
+                        usize *length) {
+    return write(2, starts, starts_len, targets, m, counts, counts_len, lengths, lengths_len, image, image_len, length);
 }
 
 // ---- the search from an entrance to its exit
@@ -250,8 +290,8 @@ u32 plain_judge(const u32 *starts, usize starts_len, const u32 *targets, usize m
 
 // ---- fold
 
-// Visits a vertex and, depth first, what it leads to; for each vertex on the path but the last `places` has the place in
-// its row. Answers whether a vertex on the path was met again.
+// Visits a vertex and, depth first, what it leads to; for each vertex on the path but the last `places` has the place
+// in its row. Answers whether a vertex on the path was met again.
 static _Bool closes(const u32 *starts, const u32 *targets, u8 *colours, u16 *path, u16 *places, u32 root) {
     if (colours[root] != 0) return 0;
     colours[root] = 1;
@@ -309,18 +349,29 @@ static usize find_candidates(const u32 *starts, const u32 *targets, usize n, con
     return found;
 }
 
-// Keeps the best path through the visited vertices to t: the next vertex of each kept one, n + 1 for a dropped one. The
-// inner vertices of the path share what is dropped: to each the quotient, and to the first ones, as many as the
-// remainder, one more.
-static void keep_path(const u32 *starts, const u32 *targets, const u64 *counts, usize n, const u32 *visited,
-                      usize visited_len, u32 t, u64 *best, u32 *next, u64 *counts2) {
+// How the kept path is chosen: by the largest sum of its inner counts, or by the largest smallest one of them.
+enum choosing { SUM, WEAKEST };
+
+// What a path gains that goes on to u: `end` at the exit; else by the sum the count of u more than the best from u, and
+// by the weakest the smaller of that best and one more than the count, so that the bare edge, 0, is below every arm.
+static u64 worth(enum choosing by, const u64 *counts, const u64 *best, u32 t, u64 end, u32 u) {
+    if (u == t) return end;
+    if (by == SUM) return counts[u] + best[u];
+    return counts[u] + 1 < best[u] ? counts[u] + 1 : best[u];
+}
+
+// The best that a path gains from each visited vertex on, and the first child that leads to it, the last vertex first.
+// The exit gains the bound, and nothing from the entrance.
+static void settle(enum choosing by, const u32 *starts, const u32 *targets, const u64 *counts, const u32 *visited,
+                   usize visited_len, u32 t, u64 bound, u64 *best, u32 *next) {
     for (usize k = visited_len; k > 0; k--) {
         u32 v = visited[k - 1];
-        const u32 *row = targets + starts[v], *end = targets + starts[v + 1];
+        u64 end = k == 1 ? 0 : bound;
+        const u32 *row = targets + starts[v], *row_end = targets + starts[v + 1];
         u32 child = *row;
-        u64 gain = child == t ? 0 : counts[child] + best[child];
-        for (const u32 *edge = row + 1; edge < end; edge++) {
-            u64 more = *edge == t ? 0 : counts[*edge] + best[*edge];
+        u64 gain = worth(by, counts, best, t, end, child);
+        for (const u32 *edge = row + 1; edge < row_end; edge++) {
+            u64 more = worth(by, counts, best, t, end, *edge);
             if (more > gain) {
                 child = *edge;
                 gain = more;
@@ -329,6 +380,17 @@ static void keep_path(const u32 *starts, const u32 *targets, const u64 *counts, 
         best[v] = gain;
         next[v] = child;
     }
+}
+
+// Keeps the best path through the visited vertices to t: the next vertex of each kept one, n + 1 for a dropped one. The
+// inner vertices of the path share what is dropped: to each the quotient, and to the first ones, as many as the
+// remainder, one more. By the weakest a second round asks of no vertex more than the best path has, so that all paths
+// as strong are equal, and the first child leads along the kept one.
+static void keep_path(enum choosing by, const u32 *starts, const u32 *targets, const u64 *counts, usize n,
+                      const u32 *visited, usize visited_len, u32 t, u64 *best, u32 *next, u64 *counts2) {
+    u64 bound = by == SUM ? 0 : MOST_COUNTED + 1;
+    settle(by, starts, targets, counts, visited, visited_len, t, bound, best, next);
+    if (by == WEAKEST) settle(by, starts, targets, counts, visited, visited_len, t, best[visited[0]], best, next);
     u32 kept = next[visited[0]];
     u64 inner = 0, dropped = 0;
     for (usize k = 1; k < visited_len; k++) {
@@ -366,9 +428,9 @@ static usize write_table(const u32 *starts, const u32 *targets, usize n, const u
     return at;
 }
 
-u32 plain_fold(const u32 *starts, usize starts_len, const u32 *targets, usize m, const u64 *counts, usize counts_len,
-               u32 budget, u32 *starts2, usize starts2_len, u32 *targets2, usize targets2_len, u64 *counts2,
-               usize counts2_len, usize *folded, usize *left_over, usize *edges) {
+static u32 fold(enum choosing by, const u32 *starts, usize starts_len, const u32 *targets, usize m, const u64 *counts,
+                usize counts_len, u32 budget, u32 *starts2, usize starts2_len, u32 *targets2, usize targets2_len,
+                u64 *counts2, usize counts2_len, usize *folded, usize *left_over, usize *edges) {
     *folded = *left_over = *edges = 0;
     u32 number = check(starts, starts_len, targets, m);
     if (number != 0) return number;
@@ -390,11 +452,26 @@ u32 plain_fold(const u32 *starts, usize starts_len, const u32 *targets, usize m,
         usize visited;
         if (exits[s] >= n || done >= budget) continue;
         search(starts, targets, parents, left, order, s, &t, &visited);
-        keep_path(starts, targets, counts, n, order, visited, t, best, next, counts2);
+        keep_path(by, starts, targets, counts, n, order, visited, t, best, next, counts2);
         done++;
     }
     *edges = write_table(starts, targets, n, next, starts2, targets2);
     *folded = done;
     *left_over = found - done;
     return 0;
+}
+
+u32 plain_fold(const u32 *starts, usize starts_len, const u32 *targets, usize m, const u64 *counts, usize counts_len,
+               u32 budget, u32 *starts2, usize starts2_len, u32 *targets2, usize targets2_len, u64 *counts2,
+               usize counts2_len, usize *folded, usize *left_over, usize *edges) {
+    return fold(SUM, starts, starts_len, targets, m, counts, counts_len, budget, starts2, starts2_len, targets2,
+                targets2_len, counts2, counts2_len, folded, left_over, edges);
+}
+
+u32 plain_fold_weakest(const u32 *starts, usize starts_len, const u32 *targets, usize m, const u64 *counts,
+                       usize counts_len, u32 budget, u32 *starts2, usize starts2_len, u32 *targets2,
+                       usize targets2_len, u64 *counts2, usize counts2_len, usize *folded, usize *left_over,
+                       usize *edges) {
+    return fold(WEAKEST, starts, starts_len, targets, m, counts, counts_len, budget, starts2, starts2_len, targets2,
+                targets2_len, counts2, counts2_len, folded, left_over, edges);
 }

@@ -3,7 +3,7 @@
 #include "gohardim.h"
 
 typedef gohardim_u8 u8;
-typedef unsigned short u16;
+typedef gohardim_u16 u16;
 typedef gohardim_u32 u32;
 typedef gohardim_u64 u64;
 typedef gohardim_size usize;
@@ -11,9 +11,11 @@ typedef gohardim_size usize;
 __typeof__(gohardim_look) plain_look;
 __typeof__(gohardim_load) plain_load;
 __typeof__(gohardim_write) plain_write;
+__typeof__(gohardim_write_lengths) plain_write_lengths;
 __typeof__(gohardim_list) plain_list;
 __typeof__(gohardim_judge) plain_judge;
 __typeof__(gohardim_fold) plain_fold;
+__typeof__(gohardim_fold_weakest) plain_fold_weakest;
 
 void *memset(void *to, int byte, usize size);
 void *memcpy(void *restrict to, const void *restrict from, usize size);

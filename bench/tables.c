@@ -25,8 +25,15 @@ static void edge(u32 from, u32 to) {
     edges++;
 }
 
-// Makes the table of the edges noted so far: by rows, each row rising, an edge once. The counts are drawn. Behind what
-// is lent stand rows that do not rise and counts that are too large, so that a side that reads there answers wrong.
+static u16 draw_length(void) { // one with a low byte alone, a high byte alone, or both, but never 0
+    static const u16 places[] = {1, 256, 257};
+    u16 byte = 1 + draw(255);
+    return byte * places[draw(3)];
+}
+
+// Makes the table of the edges noted so far: by rows, each row rising, an edge once. Counts and lengths are drawn.
+// Behind what is lent stand rows that do not rise, counts that are too large and lengths of 0, so that a side that
+// reads there answers wrong.
 static void make(const char *name, usize n, u32 counts_below) {
     static u8 joined[MOST + 1][MOST + 1];
     for (usize v = 0; v < n; v++) memset(joined[v], 0, n);
@@ -46,7 +53,10 @@ static void make(const char *name, usize n, u32 counts_below) {
         table.starts[v + 1] = table.m + 2;
         table.counts[v] = ~0ul;
     }
-    lent = (struct lent){n + 1, table.m, n, 0, 2 * MOST + 2, MOST + 2, MOST_EDGES + 1, MOST + 1, MOST_BYTES + 1};
+    for (usize v = 0; v < n; v++) table.lengths[v] = draw_length();
+    lent = (struct lent){.starts = n + 1, .targets = table.m, .counts = n, .lengths = n, .out = 2 * MOST + 2,
+                         .starts2 = MOST + 2, .targets2 = MOST_EDGES + 1, .counts2 = MOST + 1, .lengths2 = MOST + 1,
+                         .image2 = MOST_BYTES + 1};
     asked = (struct asked){0, n - 1, ALL};
 }
 
@@ -74,8 +84,8 @@ void make_comb(usize n) {
     make("comb", 2 * k + 1, 1000);
 }
 
-// Layers of two, each vertex with an edge to every one of the next two layers: no superbubble, since no vertex is alone in
-// its layer, and paths through all of them.
+// Layers of two, each vertex with an edge to every one of the next two layers: no superbubble, since no vertex is alone
+// in its layer, and paths through all of them.
 void make_layers(usize n) {
     for (u32 v = 0; v < n; v++)
         for (u32 to = v - v % 2 + 2; to < v - v % 2 + 6 && to < n; to++) edge(v, to);
@@ -226,7 +236,8 @@ static u32 step(u32 most) { // 1, 2 or 3, but at most `most`; the smaller, the m
 
 // At most `most` vertices in a row, each with an edge from one before it and an edge to one behind it: superbubbles one
 // after the other and within each other. Up to two edges more may spoil some or close a cycle. The vertices are then
-// numbered at random, and the counts are so small that paths tie.
+// numbered at random. The counts are all 0 or up to 3, so that paths tie, and in every fifth table as many times larger
+// as their sum allows.
 void make_drawn(u32 which, u32 most) {
     static char name[16];
     static u32 numbers[MOST];
@@ -247,7 +258,9 @@ void make_drawn(u32 which, u32 most) {
         edge_from[k] = numbers[edge_from[k]];
         edge_to[k] = numbers[edge_to[k]];
     }
-    make(name, n, 3);
+    make(name, n, 1 + which % 4);
+    if (which % 5 == 4)
+        for (u32 v = 0; v < n; v++) table.counts[v] *= MOST_COUNTED / (3 * n);
 }
 
 // ---- the image of a table
@@ -257,15 +270,19 @@ static u8 *put(u8 *to, u64 number, int bytes) { // and answers where the next on
     return to;
 }
 
-void make_image(void) {
+// Behind the image of version 1 stands a count that is too large, and behind either lengths of 0.
+void make_image(u32 version) {
     u8 *at = image;
     for (const char *mark = "SBT"; *mark != 0; mark++) at = put(at, *mark, 1);
-    at = put(at, 1, 2);
+    at = put(at, version, 2);
     at = put(at, table.n, 4);
     at = put(at, table.m, 4);
     for (usize v = 0; v <= table.n; v++) at = put(at, table.starts[v], 4);
     for (usize k = 0; k < table.m; k++) at = put(at, table.targets[k], 4);
     for (usize v = 0; v < table.n; v++) at = put(at, table.counts[v], 8);
-    memset(at, 255, BEHIND + 1);
+    if (version == 2)
+        for (usize v = 0; v < table.n; v++) at = put(at, table.lengths[v], 2);
     lent.image = at - image;
+    memset(at, 0, BEHIND + 1);
+    if (version == 1) put(at, ~0ul, 8);
 }
