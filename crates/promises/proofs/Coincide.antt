@@ -70,7 +70,7 @@ use Rattle.judge_bytes.specs.Line.{JudgeAnswer}
 use Rattle.fold_bytes.specs.declared.Answers.{Answers}
 use Rattle.fold_bytes.specs.Image.{fold-of, FoldAnswer}
 use Rattle.promises.proofs.AnyRun.{answers-determined}
-use Rattle.promises.proofs.Demand3.{fold-of-lawful}
+use Rattle.promises.proofs.Runs.{fold-of-lawful}
 
 -- Where the contract is an equation: `table::row`, `table::stated_limits`, `layout::Header::length`, `lengths`, `largest` and `put`, all that `layout` reads and puts of
 -- bytes, and `parents::copy`.

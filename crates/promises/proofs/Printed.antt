@@ -43,7 +43,7 @@ use Rattle.promises.proofs.Decided.{gives-number, decided-then, both, i
 use Rattle.promises.proofs.GoodImages.{passed-sound, passed-contents, rest-passed, good-decides, same-bytes, passed-exactly}
 use Rattle.promises.proofs.AnyRun.{writes-version, writes-lengths, prints-as-called, writes-as-called}
 use Rattle.promises.proofs.Demand2.{listed, judged}
-use Rattle.promises.proofs.Demand3.{fold-of-lawful}
+use Rattle.promises.proofs.Runs.{fold-of-lawful}
 
 -- ---- What is printed and written where nothing is refused.
 

@@ -11,8 +11,9 @@ use Rattle.bubble.specs.Cycle.{Cyclic}
 use Rattle.bubble.specs.Superbubble.{Interior, Superbubble}
 use Rattle.rule.specs.Lists.{Listing}
 use Rattle.rule.specs.Fold.{Candidate, Entrance, budgets-sum}
+use Rattle.rule.specs.Laws.{WayLaws}
 use Rattle.rule.proofs.TableDemand.{no-interior-left}
-use Rattle.rule.proofs.TheFold.{folds-acyclic}
+use Rattle.rule.proofs.TheFold.{the-fold-lawful, folds-acyclic}
 use Rattle.rule.proofs.BestLaws.{kept-shares-laws}
 use Rattle.fold_bytes.specs.declared.Answers.{Answers}
 use Rattle.fold_bytes.specs.Image.{choosing-of, fold-of, FoldAnswer}
@@ -20,7 +21,11 @@ use Rattle.promises.specs.Images.{GoodImage}
 use Rattle.promises.specs.Calls.{Foldable}
 use Rattle.promises.specs.Runs.{FoldRun, RunsInTurn}
 use Rattle.promises.proofs.AnyRun as any
-use Rattle.promises.proofs.Demand3.{fold-of-lawful, first-candidates}
+use Rattle.promises.proofs.Demand3.{first-candidates}
+
+-- The fold of each version is a lawful way of folding.
+pub fold-of-lawful : (version : ℕ) → WayLaws (fold-of version)
+fold-of-lawful version = the-fold-lawful (choosing-of version)
 
 module _ {image image′ budgets : List ℕ} (runs : RunsInTurn fold-of image budgets image′) where
   -- What they leave is a good image, of a table without a directed cycle,

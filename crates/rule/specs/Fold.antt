@@ -1,5 +1,5 @@
--- The fold of docs/RULES.md, Fold, as a definition over any graph with counts: candidates, sets, kept paths and sums are those of the graph handed in.
--- The candidates and the rule are arguments; `Candidate` and, by version, `kept-shares` are those of docs/RULES.md. Assumes nothing.
+-- The fold of docs/RULES.md, Fold, over any graph with counts: candidates, sets, kept paths and sums are those of the graph handed in. The candidates and the rule are
+-- arguments; `Candidate` and `kept-shares` are those of docs/RULES.md. Assumes nothing.
 use Prim.Native.Nat.{ℕ, _+_, _/_, _%_, _<_}
 use mathlib.Core.Path.{_≡_}
 use mathlib.Core.Logic.{_↔_, ite}

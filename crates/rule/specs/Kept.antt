@@ -37,13 +37,12 @@ abbrev pub least : Counts → ℕ → List ℕ → ℕ
 least c v [] = c v
 least c v (u ∷ l) = min (c v) (least c u l)
 
--- by its weakest vertex a path scores one more than the least count of its inner vertices, and the bare edge, which has none, scores less than any other path
+-- one more than the least count of the inner vertices; the bare edge, which has none, scores less than any other path
 abbrev pub weakest : Counts → List ℕ → ℕ
 weakest c [] = 0
 weakest c (v ∷ l) = 1 + least c v l
 
--- docs/RULES.md, Fold: version 1 keeps a path with the largest sum of counts over its inner vertices, and the bare edge has sum 0; version 2 one with the largest least
--- count, and never the bare edge
+-- docs/RULES.md, Fold: version 1 goes by the sum of the inner counts, 0 for the bare edge, and version 2 by the least of them, never keeping the bare edge
 abbrev pub score-by : Choosing → Counts → List ℕ → ℕ
 score-by Sum = sum
 score-by Weakest = weakest
