@@ -2,7 +2,6 @@
 -- the best child of each visited vertex, the last first
 pub mod OrderLaws
 pub mod CountLaws
-pub mod ChoiceLaws
 pub mod SettleLaws
 pub mod LeadLaws
 -- the kept vertices parted from the dropped ones, the first first

@@ -16,7 +16,8 @@ use Rattle.rule.specs.Tables.{count-of}
 use Rattle.rule.specs.Next.{worth, Settled}
 use Rattle.rule.specs.declared.Choosing.{Choosing}
 use Rattle.rule.proofs.Worth.{worth-exit, worth-other, worth-same, gain-most}
-use Rattle.kept.specs.Steps.{Choosable, Chosen, end-at, Settleable, SettledFrom}
+use Rattle.children.specs.Children.{Choosable, Chosen}
+use Rattle.kept.specs.Steps.{end-at, Settleable, SettledFrom}
 use Rattle.kept.proofs.CountLaws.{distinct-sum, sum-from, sum-later}
 use Rattle.kept.proofs.OrderLaws.{some-child, visited-below, child-later}
 

@@ -1,5 +1,4 @@
 // The kept path of one candidate, the vertices dropped beside it, and where their counts go.
-mod children;
 mod paths;
 
 pub use paths::keep;

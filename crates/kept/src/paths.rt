@@ -6,7 +6,7 @@ ghost use lib.ListN.{length, getD};
 ghost use Rattle.rule.specs.Way.{the-fold};
 ghost use Rattle.kept.specs.Steps.{end-at, Settleable, SettledFrom, Led, Partable, Step, Siftable, Sifted};
 ghost use Rattle.kept.specs.Keeping.{Keepable, KeptDone};
-use crate::children::choose;
+use children::choose;
 use rule::Choosing;
 use sharing::share;
 use table::READ_LIMIT;

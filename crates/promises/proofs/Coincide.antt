@@ -6,7 +6,7 @@ use Prim.Native.Nat.{ℕ, _<_, _≤_}
 use mathlib.Core.Path.{_≡_, refl, sym, _∙_}
 use mathlib.Core.Bool.{Bool}
 use mathlib.Core.List.{List}
-use lib.ListN.{getD}
+use lib.ListN.{length, getD}
 use Rattle.table.specs.Limits.{read-limit}
 use Rattle.table.specs.Verdict.{Verdict, Says}
 use Rattle.table.specs.Table.{In, Rises, countSum, Rows, Table, edges}
@@ -40,6 +40,9 @@ use Rattle.judging.specs.Judging.{JudgeDone}
 use Rattle.judging.proofs.Determined.{judged-determined, judge-determined}
 use Rattle.candidates.specs.Candidates.{FindDone}
 use Rattle.candidates.proofs.FoundLaws.{found-determined}
+use Rattle.children.specs.declared.Choice.{Choice}
+use Rattle.children.specs.Children.{Chosen}
+use Rattle.children.proofs.Determined.{choice-determined}
 use Rattle.sharing.specs.Sharing.{Shared}
 use Rattle.sharing.proofs.Determined.{shared-determined}
 use Rattle.kept.specs.Keeping.{KeptDone}
@@ -182,6 +185,12 @@ pub find-coincides : {rows : Rows} {parents₁ pending₁ order₁ exits₁ pare
     → FindDone Candidate rows parents₁ pending₁ order₁ exits₁ found₁ → FindDone Candidate rows parents₂ pending₂ order₂ exits₂ found₂
     → (parents₁ ≡ parents₂) × (pending₁ ≡ pending₂) × (exits₁ ≡ exits₂) × (found₁ ≡ found₂)
 find-coincides = found-determined candidate-laws
+
+-- `children::choose`
+pub choose-coincides : {by : Choosing} {row counts best : List ℕ} {t end : ℕ} {choice₁ choice₂ : Choice}
+    → Chosen by row counts best t end (length row) (choice₁ .child) (choice₁ .gain) → Chosen by row counts best t end (length row) (choice₂ .child) (choice₂ .gain)
+    → choice₁ ≡ choice₂
+choose-coincides = choice-determined
 
 -- `sharing::share`
 pub share-coincides : {counts next out out₁ out₂ : List ℕ} {s k d : ℕ} → Shared counts next out s k d k out₁ → Shared counts next out s k d k out₂ → out₁ ≡ out₂

@@ -9,7 +9,7 @@ use lib.ListN.{getD}
 use Rattle.rule.specs.Tables.{count-of}
 use Rattle.rule.specs.Next.{worth}
 use Rattle.rule.specs.declared.Choosing.{Choosing}
-use Rattle.kept.specs.Steps.{Chosen}
+use Rattle.children.specs.Children.{Chosen}
 
 module _ {by : Choosing} {row counts best : List ℕ} {t end : ℕ} where
   pub chosen-one : {gain : ℕ} → gain ≡ worth by (count-of counts) t end (count-of best) (getD row 0 0) → Chosen by row counts best t end 1 (getD row 0 0) gain

@@ -1,12 +1,12 @@
--- `kept::children::worth` meets its contract. Assumes nothing.
+-- `children::worth` meets its contract. Assumes nothing.
 use mathlib.Core.Path.{sym}
 use native.Mathlib.Omega.{arith}
 use borrow.Author.Needs.{needs}
 use Rattle.rule.specs.Tables.{count-of}
 use Rattle.rule.specs.declared.Choosing.the-variants.{Sum, Weakest}
 use Rattle.rule.proofs.Worth.{worth-exit, worth-other}
-use Rattle.kept.proofs.children.worth.Statement.{statement}
-use Rattle.kept.proofs.children.worth.Tie as tie
+use Rattle.children.proofs.worth.Statement.{statement}
+use Rattle.children.proofs.worth.Tie as tie
 
 -- The places that the needs look back to, each seen from a place nearer to them.
 abbrev entry : tie.Else1 → tie.Start

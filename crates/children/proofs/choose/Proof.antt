@@ -1,14 +1,14 @@
--- `kept::children::choose` meets its contract. The loop's invariant: of the first k children this one is chosen. Assumes nothing.
+-- `children::choose` meets its contract. The loop's invariant: of the first k children this one is chosen. Assumes nothing.
 use Prim.Native.Nat.{_-_, _≤_}
 use mathlib.Core.Path.{_≡_}
 use mathlib.Core.Logic.{⊎-elim}
 use native.Mathlib.Omega.{arith}
 use lib.ListN.{length}
 use borrow.Author.Needs.{needs}
-use Rattle.kept.specs.Steps.{Chosen}
-use Rattle.kept.proofs.ChoiceLaws.{chosen-one, chosen-larger, chosen-still}
-use Rattle.kept.proofs.children.choose.Statement.{statement}
-use Rattle.kept.proofs.children.choose.Tie as tie
+use Rattle.children.specs.Children.{Chosen}
+use Rattle.children.proofs.ChoiceLaws.{chosen-one, chosen-larger, chosen-still}
+use Rattle.children.proofs.choose.Statement.{statement}
+use Rattle.children.proofs.choose.Tie as tie
 
 abbrev Inv-loop : tie.InvT-loop
 Inv-loop by row counts best t end child₀ gain₀ k₀ child gain k = (k ≤ length row) × Chosen by row counts best t end k child gain

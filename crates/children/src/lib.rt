@@ -4,7 +4,7 @@ ghost use mathlib.Core.Path.{_≡_};
 ghost use lib.ListN.{length};
 ghost use Rattle.rule.specs.Tables.{count-of};
 ghost use Rattle.rule.specs.Next.{worth as Next·worth};
-ghost use Rattle.kept.specs.Steps.{Weighable, Choosable, Chosen};
+ghost use Rattle.children.specs.Children.{Weighable, Choosable, Chosen};
 use rule::Choosing;
 
 // A child, and what a path gains that goes on to it.

@@ -1,0 +1,2 @@
+-- The definitions of `children`. Assumes nothing.
+pub mod Children
