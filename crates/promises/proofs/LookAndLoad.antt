@@ -1,7 +1,7 @@
 -- Look and load of one image, in a row: each sentence of docs/changes/01-look.md, of all that the contracts of both allow. Assumes nothing.
 use Prim.Native.Nat.{ℕ, zero, suc, _+_, _*_}
 use mathlib.Core.Path.{_≡_, refl, sym, ap, ap₂, _∙_}
-use mathlib.Core.Logic.{_↔_, _≢_, inl, inr}
+use mathlib.Core.Logic.{_↔_, _≢_, _⊎_, inl, inr, ⊎-elim}
 use mathlib.Core.List.{List, [], _∷_, _++_}
 use native.Mathlib.Decide.{ℕ-discrete}
 use native.Mathlib.Omega.{arith}
@@ -29,22 +29,25 @@ use Rattle.promises.proofs.GoodImages.{passed-exactly}
 pub look-order : (image : List ℕ) → numbers (imageDemands image) ≡ 10 ∷ 11 ∷ 1 ∷ 2 ∷ 12 ∷ 3 ∷ 4 ∷ 5 ∷ 7 ∷ 20 ∷ []
 look-order image = refl
 
--- each demand has another number than k
-abbrev Others : ℕ → List Demand → Type 0
+-- each demand has another number than k, or is met
+abbrev pub Others : ℕ → List Demand → Type 0
 Others k [] = Unit {0}
-Others k (d ∷ rest) = (d .number ≢ k) × Others k rest
+Others k (d ∷ rest) = ((d .number ≢ k) ⊎ d .met) × Others k rest
 
 -- then k is not given
-never : (k : ℕ) (demands : List Demand) {r : ℕ} → k ≢ 0 → Others k demands → Verdict demands r → r ≢ k
+pub never : (k : ℕ) (demands : List Demand) {r : ℕ} → k ≢ 0 → Others k demands → Verdict demands r → r ≢ k
 never k [] some others v e = some (sym e ∙ v)
-never k (d ∷ rest) some others (inl v) e = others .0 (sym (v .1) ∙ e)
+never k (d ∷ rest) some others (inl v) e = ⊎-elim (λ other. other (sym (v .1) ∙ e)) (λ met. v .0 met) (others .0)
 never k (d ∷ rest) some others (inr v) e = never k rest some (others .1) (v .1) e
 
 -- 8 is never among them.
 pub look-never-eight : {image : List ℕ} {looked : Sizes} → Looked image looked → looked .number ≢ 8
 look-never-eight {image} sees =
-    let body : Others 8 (bodyDemands image) = ((λ e. omega arith), ((λ e. omega arith), ((λ e. omega arith), ((λ e. omega arith), ((λ e. omega arith), tt))))) in
-    never 8 (imageDemands image) (λ e. omega arith) ((λ e. omega arith), ((λ e. omega arith), ((λ e. omega arith), ((λ e. omega arith), ((λ e. omega arith), body))))) (sees .verdict)
+    let body : Others 8 (bodyDemands image)
+    = (inl (λ e. omega arith), (inl (λ e. omega arith), (inl (λ e. omega arith), (inl (λ e. omega arith), (inl (λ e. omega arith), tt))))) in
+    let all : Others 8 (imageDemands image)
+    = (inl (λ e. omega arith), (inl (λ e. omega arith), (inl (λ e. omega arith), (inl (λ e. omega arith), (inl (λ e. omega arith), body))))) in
+    never 8 (imageDemands image) (λ e. omega arith) all (sees .verdict)
 
 -- An image is sound, and look gives 0, exactly if it is the image of a well-formed table, in version 2 with its lengths;
 pub look-exactly : {image : List ℕ} {looked : Sizes} → Below 256 image → Looked image looked → (looked .number ≡ 0) ↔ GoodImage image

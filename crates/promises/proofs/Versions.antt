@@ -14,6 +14,8 @@ use Rattle.layout.specs.Bytes.{spelled}
 use Rattle.layout.specs.Image.{Contents, imageLength, largest-image, headerOf, imageOf}
 use Rattle.layout.proofs.LengthLaws.{lengths-one, lengths-two}
 use Rattle.image.specs.Contracts.{contentsRoom}
+use Rattle.writing.specs.declared.Extent.{Extent}
+use Rattle.writing.specs.Writing.{imageRoom, contentsDemands, Written}
 use Rattle.rule.specs.declared.Choosing.the-variants.{Sum, Weakest}
 use Rattle.rule.specs.Lists.{Graph, Counts, sum}
 use Rattle.rule.specs.Kept.{Arm, Earlier, least, weakest, Best}
@@ -24,6 +26,8 @@ use Rattle.rule.proofs.BestLaws.{weakest-never-bare}
 use Rattle.rule.proofs.Candidates.{candidate-laws}
 use Rattle.promises.specs.Calls.{Foldable, FoldCall}
 use Rattle.promises.specs.Weakest.{Smallest}
+use Rattle.promises.specs.InARow.{numbers}
+use Rattle.promises.proofs.LookAndLoad.{never}
 use Rattle.promises.proofs.Shared.{applied}
 
 -- ---- The kept path.
@@ -127,3 +131,31 @@ version-1-asks-no-lengths n m lent room = (room, omega (arith, lengths-one n))
 -- and n in version 2.
 pub version-2-asks-n-lengths : (n m : ℕ) (lent : Contents) → contentsRoom 2 n m lent .met → n ≤ length (lent .lengths)
 version-2-asks-n-lengths n m lent room = omega (arith, lengths-two n, room .1)
+
+-- Writing asks in this order, in both versions,
+pub write-order : (version : ℕ) (contents : Contents) (image : List ℕ)
+    → numbers (contentsDemands version contents ++ imageRoom version (contents .table .rows) image ∷ []) ≡ 1 ∷ 2 ∷ 3 ∷ 4 ∷ 5 ∷ 6 ∷ 7 ∷ 20 ∷ 8 ∷ []
+write-order version contents image = refl
+
+-- and in version 1, which has no lengths, it never gives 20.
+pub version-1-never-twenty : {table : Table} {image image′ : List ℕ} {answer : Extent} → Written 1 (record { table = table; lengths = [] }) image image′ answer
+    → answer .number ≢ 20
+version-1-never-twenty {table} {image} done =
+    let contents : Contents = record { table = table; lengths = [] } in
+    never 20 (contentsDemands 1 contents ++ imageRoom 1 (table .rows) image ∷ []) (λ e. omega arith) (
+      inl (λ e. omega arith),
+      (
+        inl (λ e. omega arith),
+        (
+          inl (λ e. omega arith),
+          (
+            inl (λ e. omega arith),
+            (
+              inl (λ e. omega arith),
+              (inl (λ e. omega arith), (inl (λ e. omega arith), (inr (λ k h. absurd (let no : ⊥ = omega arith in no)), (inl (λ e. omega arith), tt)))),
+            ),
+          ),
+        ),
+      ),
+    )
+    (done .verdict)

@@ -2,9 +2,7 @@
 use mathlib.Core.Path.{sym}
 use lib.Seq.{length-take-le}
 use native.Mathlib.Omega.{arith}
-use Rattle.layout.specs.Lengths.{lengthCount}
-use Rattle.layout.specs.Image.{Contents}
-use Rattle.taking.proofs.TakenLaws.{TakenTable, TakenLengths, taken-same, taken-sound, taken-table, taken-lengths}
+use Rattle.taking.proofs.TakenLaws.{taken-same, taken-sound, taken-table, taken-lengths}
 use Rattle.printing.proofs.PutLaws.{front-counts}
 use Rattle.fold_bytes.specs.Image.{fold-of}
 use Rattle.fold_bytes.proofs.FoldLaws.{image-refused, image-folded}
@@ -25,32 +23,6 @@ first-argument c = c .before .before .before .before .before .before .before .be
 abbrev after-lengths : tie.After-fold-contents-arg → tie.After-lengths
 after-lengths c = c .before .before .before .before .before .before .before .before .before
 
-abbrev entry : tie.After-take-in → tie.Start
-entry c = c .before .before .before .before .before .before
-
--- the arrays that the image was taken into
-abbrev filled : tie.After-take-in → Contents
-filled c =
-    record {
-      table =
-          record {
-            rows = record { starts = c .take-in .last .1 .0; targets = c .take-in .last .1 .1 .0 };
-            counts = c .take-in .last .1 .1 .1 .0;
-          };
-      lengths = c .take-in .last .1 .1 .1 .1 .0;
-    }
-
--- its table and its lengths stand at their fronts
-taken : (c : tie.Else1)
-    → let done = c .before .before in
-    TakenTable (entry done .args .image .now) (filled done .table) (done .take-in .result .vertices) (done .take-in .result .edges)
-taken c = taken-table (c .before .before .take-in .ensures .0) (c .if1 .left)
-
-within : (c : tie.Else1)
-    → let done = c .before .before in
-    TakenLengths (entry done .args .image .now) (filled done .lengths) (lengthCount (done .take-in .result .version) (done .take-in .result .vertices))
-within c = taken-lengths (c .before .before .take-in .ensures .0) (c .if1 .left)
-
 take-in-requires : tie.Need-take-in-requires
 take-in-requires c κs = search needs
 
@@ -69,17 +41,26 @@ add-fold-contents : tie.Need-add-fold-contents
 add-fold-contents c = search needs
 
 slice-aggregate-fold-contents : tie.Need-slice-aggregate-fold-contents
-slice-aggregate-fold-contents c = sym (length-take-le _ _ (taken (in-else1 c) .starts-within))
+slice-aggregate-fold-contents c =
+    let start = in-else1 c in
+    sym (length-take-le _ _ (taken-table (start .before .before .take-in .ensures .0) (start .if1 .left) .starts-within))
 
 slice-aggregate-fold-contents-2 : tie.Need-slice-aggregate-fold-contents-2
-slice-aggregate-fold-contents-2 c = sym (length-take-le _ _ (taken (in-else1 (c .before)) .targets-within))
+slice-aggregate-fold-contents-2 c =
+    let start = in-else1 (c .before) in
+    sym (length-take-le _ _ (taken-table (start .before .before .take-in .ensures .0) (start .if1 .left) .targets-within))
 
 slice-aggregate-fold-contents-3 : tie.Need-slice-aggregate-fold-contents-3
-slice-aggregate-fold-contents-3 c = sym (length-take-le _ _ (taken (in-else1 (c .before .before)) .counts-within))
+slice-aggregate-fold-contents-3 c =
+    let start = in-else1 (c .before .before) in
+    sym (length-take-le _ _ (taken-table (start .before .before .take-in .ensures .0) (start .if1 .left) .counts-within))
 
 slice-aggregate-fold-contents-4 : tie.Need-slice-aggregate-fold-contents-4
-slice-aggregate-fold-contents-4 c = let first = c .before .before .before in
-    sym (length-take-le _ _ (omega (arith, within (in-else1 first) .lengths-within, after-lengths first .lengths .ensures)))
+slice-aggregate-fold-contents-4 c =
+    let first = c .before .before .before in
+    let start = in-else1 first in
+    let within = taken-lengths (start .before .before .take-in .ensures .0) (start .if1 .left) .lengths-within in
+    sym (length-take-le _ _ (omega (arith, within, after-lengths first .lengths .ensures)))
 
 fold-contents-requires : tie.Need-fold-contents-requires
 fold-contents-requires c κs =

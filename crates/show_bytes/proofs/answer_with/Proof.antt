@@ -3,9 +3,7 @@ use mathlib.Core.Path.{refl, sym}
 use native.Mathlib.Omega.{arith}
 use lib.Seq.{length-take-le}
 use borrow.Author.Needs.{needs}
-use Rattle.layout.specs.Lengths.{lengthCount}
-use Rattle.layout.specs.Image.{Contents}
-use Rattle.taking.proofs.TakenLaws.{TakenTable, TakenLengths, taken-same, taken-sound, taken-table, taken-lengths}
+use Rattle.taking.proofs.TakenLaws.{taken-same, taken-sound, taken-table, taken-lengths}
 use Rattle.printing.proofs.PutLaws.{front-counts}
 use Rattle.printing.proofs.AnsweredLaws.{refusal-answers}
 use Rattle.show_bytes.proofs.PutContents.{contents-answers}
@@ -16,37 +14,11 @@ use Rattle.show_bytes.proofs.answer_with.Tie as tie
 abbrev after-shared-slice-known : tie.After-take-in → tie.After-shared-slice-known
 after-shared-slice-known c = c .before .before .before .before .before
 
-abbrev entry : tie.After-take-in → tie.Start
-entry c = after-shared-slice-known c .before
-
 abbrev after-take-in : tie.After-refusal → tie.After-take-in
 after-take-in c = c .before .before .before .before
 
 abbrev after-lengths : tie.After-put-contents-arg2 → tie.After-lengths
 after-lengths c = c .before .before .before .before .before .before .before .before .before .before
-
--- the arrays that the image was taken into
-abbrev filled : tie.After-take-in → Contents
-filled c =
-    record {
-      table =
-          record {
-            rows = record { starts = c .take-in .last .1 .0; targets = c .take-in .last .1 .1 .0 };
-            counts = c .take-in .last .1 .1 .1 .0;
-          };
-      lengths = c .take-in .last .1 .1 .1 .1 .0;
-    }
-
--- the table of an accepted image stands at their fronts, and so do its lengths
-taken : (c : tie.Else1)
-    → let done = c .before .before in
-    TakenTable (entry done .args .image .now) (filled done .table) (done .take-in .result .vertices) (done .take-in .result .edges)
-taken c = taken-table (c .before .before .take-in .ensures .0) (c .if1 .left)
-
-within : (c : tie.Else1)
-    → let done = c .before .before in
-    TakenLengths (entry done .args .image .now) (filled done .lengths) (lengthCount (done .take-in .result .version) (done .take-in .result .vertices))
-within c = taken-lengths (c .before .before .take-in .ensures .0) (c .if1 .left)
 
 take-in-requires : tie.Need-take-in-requires
 take-in-requires c κs = search needs
@@ -66,18 +38,26 @@ add-put-contents : tie.Need-add-put-contents
 add-put-contents c = search needs
 
 slice-aggregate-put-contents : tie.Need-slice-aggregate-put-contents
-slice-aggregate-put-contents c = sym (length-take-le _ _ (taken (after-lengths c .before) .starts-within))
+slice-aggregate-put-contents c =
+    let start = after-lengths c .before in
+    sym (length-take-le _ _ (taken-table (start .before .before .take-in .ensures .0) (start .if1 .left) .starts-within))
 
 slice-aggregate-put-contents-2 : tie.Need-slice-aggregate-put-contents-2
-slice-aggregate-put-contents-2 c = sym (length-take-le _ _ (taken (after-lengths (c .before) .before) .targets-within))
+slice-aggregate-put-contents-2 c =
+    let start = after-lengths (c .before) .before in
+    sym (length-take-le _ _ (taken-table (start .before .before .take-in .ensures .0) (start .if1 .left) .targets-within))
 
 slice-aggregate-put-contents-3 : tie.Need-slice-aggregate-put-contents-3
-slice-aggregate-put-contents-3 c = sym (length-take-le _ _ (taken (after-lengths (c .before .before) .before) .counts-within))
+slice-aggregate-put-contents-3 c =
+    let start = after-lengths (c .before .before) .before in
+    sym (length-take-le _ _ (taken-table (start .before .before .take-in .ensures .0) (start .if1 .left) .counts-within))
 
 slice-aggregate-put-contents-4 : tie.Need-slice-aggregate-put-contents-4
 slice-aggregate-put-contents-4 c =
     let counted = after-lengths (c .before .before .before) in
-    sym (length-take-le _ _ (omega (arith, within (counted .before) .lengths-within, counted .lengths .ensures)))
+    let start = counted .before in
+    let within = taken-lengths (start .before .before .take-in .ensures .0) (start .if1 .left) .lengths-within in
+    sym (length-take-le _ _ (omega (arith, within, counted .lengths .ensures)))
 
 put-contents-requires : tie.Need-put-contents-requires
 put-contents-requires c κs =
