@@ -1,4 +1,5 @@
--- Every finite graph without a cycle, with decided edges, has a fold with every budget, by every lawful rule that keeps something: the rules ask for nothing that cannot be. Assumes nothing.
+-- Every finite graph with decided edges, where rings are refused without a cycle, has a fold with every budget, by every lawful rule that keeps something: the rules ask for
+-- nothing that cannot be. Assumes nothing.
 use Prim.Native.Nat.{ℕ, _+_, _<_}
 use mathlib.Core.Path.{_≡_, refl, sym, ap, ap₂, subst}
 use mathlib.Core.Logic.{⊎-elim}
@@ -11,7 +12,9 @@ use Rattle.bubble.proofs.Reflect.{decided, decides-member}
 use Rattle.rule.specs.Lists.{Graph, CandidateSet, Counts, Listing, sum}
 use Rattle.rule.specs.Kept.{score-by}
 use Rattle.rule.specs.declared.Choosing.{Choosing}
-use Rattle.rule.specs.Fold.{Rule, NoCycle, Candidate, Entrance, kept-shares, Item, Fits, Applied, GraphFolded}
+use Rattle.rule.specs.declared.Rings.{Rings}
+use Rattle.rule.specs.Fold.{Rule, Entrance, kept-shares, Item, Fits, Applied, GraphFolded}
+use Rattle.rule.specs.Way.{kind-of, candidates-of}
 use Rattle.rule.specs.Laws.{RuleLaws, CandidateLaws}
 use Rattle.rule.proofs.Together.{entrances, Staying}
 use Rattle.rule.proofs.WhereIs.{Where, Where.on-arm, Where.is-dropped, Where.neither, where-is}
@@ -19,7 +22,7 @@ use Rattle.rule.proofs.Items.{item-arm, dropped-inner, arm-distinct-inn
 use Rattle.rule.proofs.Budgets.{folded-of}
 use Rattle.rule.proofs.Listings.{listing-exists}
 use Rattle.rule.proofs.BestLaws.{kept-shares-laws}
-use Rattle.rule.proofs.Candidates.{candidate-laws}
+use Rattle.rule.proofs.TheFold.{candidates-lawful}
 use Rattle.rule.proofs.BestExists.{best-exists}
 use Rattle.rule.proofs.CandidatesListed.{interior-is-decided, candidates-listed}
 
@@ -79,14 +82,17 @@ module _ {G : Graph → Type 0} {C : CandidateSet} {R : Rule} (L : CandidateLaws
     untouched = λ v h. untouched v h (where-is v items);
   }
 
-module _ {E : Graph} (decide : (u v : ℕ) → Dec (E u v)) {n : ℕ} (below : Below E n) (acyclic : NoCycle E) (c : Counts) where
+module _ {E : Graph} (decide : (u v : ℕ) → Dec (E u v)) {n : ℕ} (below : Below E n) (rings : Rings) (kind : kind-of rings E) (c : Counts) where
+  abbrev C : CandidateSet
+  C = candidates-of rings
+
   -- by any lawful rule that keeps something in each superbubble
   module _ {R : Rule} (M : RuleLaws R) (keeps-some : (s t : ℕ) → Superbubble E s t → (l : List ℕ) × R .keeps E c s t l) where
     -- the item of a candidate
-    item-for : (s : ℕ) → Entrance Candidate E s → (i : Item) × (i .entrance ≡ s) × Fits Candidate R E c i
+    item-for : (s : ℕ) → Entrance C E s → (i : Item) × (i .entrance ≡ s) × Fits C R E c i
     item-for s h =
         let (t, k) = h in
-        let (arm, best) = keeps-some s t (k .outermost .superbubble) in
+        let (arm, best) = keeps-some s t (candidates-lawful rings .superbubble k) in
         let (dropped, rest) = listing-exists n (off-arm t arm) (λ v p. interior-below below (p .0)) in
         (record { entrance = s; exit = t; arm = arm; dropped = dropped }, refl, record { candidate = k; kept = best; rest = rest })
       where
@@ -97,8 +103,8 @@ module _ {E : Graph} (decide : (u v : ℕ) → Dec (E u v)) {n : ℕ} (below : B
               | yes i ↦ elim (decided (decides-member v arm)) [ yes m ↦ no (λ h. h .1 m) | no k ↦ yes (i, k) ]
             ]
 
-    items-for : (l : List ℕ) → ((s : ℕ) → List·Memᴰ s l → Entrance Candidate E s)
-        → (items : List Item) × (entrances items ≡ l) × ((i : Item) → List·Memᴰ i items → Fits Candidate R E c i)
+    items-for : (l : List ℕ) → ((s : ℕ) → List·Memᴰ s l → Entrance C E s)
+        → (items : List Item) × (entrances items ≡ l) × ((i : Item) → List·Memᴰ i items → Fits C R E c i)
     items-for [] h = ([], refl, λ i m. absurd (List·Memᴰ·not-nil m))
     items-for (s ∷ l) h =
         let (i, q, f) = item-for s (h s (List·Memᴰ·head refl)) in
@@ -106,16 +112,16 @@ module _ {E : Graph} (decide : (u v : ℕ) → Dec (E u v)) {n : ℕ} (below : B
         (i ∷ items, ap₂ {C = List ℕ} (λ a b. a ∷ b) q r, λ j m. ⊎-elim (λ e. rw e f) (fit j) (List·Memᴰ·cases-cons m))
 
     -- there is a fold with every budget; by folded-same there is only one
-    pub rule-fold-exists : (budget : ℕ) → (E′ : Graph) × (c′ : Counts) × (folded : ℕ) × (left : ℕ) × GraphFolded Candidate R E c budget E′ c′ folded left
+    pub rule-fold-exists : (budget : ℕ) → (E′ : Graph) × (c′ : Counts) × (folded : ℕ) × (left : ℕ) × GraphFolded C R E c budget E′ c′ folded left
     rule-fold-exists budget =
-        let (l, a) = candidates-listed decide below in
-        let listed : (s : ℕ) → List·Memᴰ s (take budget l) → Entrance Candidate E s =
+        let (l, a) = candidates-listed decide below rings in
+        let listed : (s : ℕ) → List·Memᴰ s (take budget l) → Entrance C E s =
         λ s m. a .holds s .0 (rw take-append-drop at (Memᴰ·append-left (drop budget l) m)) in
         let (items, q, fit) = items-for (take budget l) listed in
-        let applied = all-folded candidate-laws M acyclic items fit l a budget q in
-        (Staying E items, _, length (applied .items), length (drop budget (applied .candidates)), folded-of candidate-laws M acyclic applied)
+        let applied = all-folded (candidates-lawful rings) M kind items fit l a budget q in
+        (Staying E items, _, length (applied .items), length (drop budget (applied .candidates)), folded-of (candidates-lawful rings) M kind applied)
 
   -- so with each of the rules of docs/RULES.md, Fold
   pub fold-exists : (by : Choosing) (budget : ℕ)
-      → (E′ : Graph) × (c′ : Counts) × (folded : ℕ) × (left : ℕ) × GraphFolded Candidate (kept-shares by) E c budget E′ c′ folded left
+      → (E′ : Graph) × (c′ : Counts) × (folded : ℕ) × (left : ℕ) × GraphFolded (candidates-of rings) (kept-shares by) E c budget E′ c′ folded left
   fold-exists by = rule-fold-exists (kept-shares-laws by) (λ s t p. best-exists decide below (score-by by) c (p .bubbloid))

@@ -23,7 +23,7 @@ pub mod Total
 pub mod Ends
 pub mod NewRows
 pub mod ByNumber
--- the rule and the candidates of docs/RULES.md, Fold, are lawful
+-- the rules and the candidates of docs/RULES.md, Fold and Rings, are lawful
 pub mod Shares
 pub mod Choice
 pub mod Through
@@ -33,6 +33,9 @@ pub mod Passable
 pub mod Candidates
 pub mod Outermost
 pub mod TheFold
+-- what is skipped, and graphs without a cycle
+pub mod Skipped
+pub mod WithoutCycle
 -- demand 3
 pub mod Demand
 -- the kept path by dynamic programming

@@ -11,7 +11,7 @@ use Rattle.rule.specs.Lists.{Graph}
 use Rattle.rule.specs.Laws.{SameInside}
 use Rattle.bubble.proofs.Fewer.{F-fewer}
 use Rattle.rule.proofs.Thread.{Thread, Clear}
-use Rattle.rule.proofs.Carry.{bubbloid-of, fewer, carried-outside}
+use Rattle.rule.proofs.Carry.{fewer, carried-outside}
 
 -- an entrance with an interior has an edge into it
 interior-child : {E : Graph} {s t v : ℕ} → F E s t v → v ≢ s → v ≢ t → (w : ℕ) × Interior E s t w × E s w
@@ -32,25 +32,26 @@ apart-clear {s = s} {t = t} {x = x} {y = y} p q n a = record {
       ];
 }
 
+-- no edge inside x, y has both its ends in the U of a superbubble with an interior that is apart from it
+pub no-common-edge : {E : Graph} {s t x y : ℕ} → Superbubble E s t → (v : ℕ) × Interior E s t v → Superbubble E x y → Apart E s t x y
+    → (u v : ℕ) → F E x y u → F E x y v → F E s t u → F E s t v → E u v → ⊥
+no-common-edge {s = s} {t = t} {y = y} o (w, i) q a u v f g p r e =
+    elim (ℕ-discrete u t) [
+      | yes m ↦ no-edge-from-exit (o .bubbloid) r (rw m at e)
+      | no m ↦
+          elim (ℕ-discrete u s) [
+            | no l ↦ a u (record { inside = p; not-entrance = l; not-exit = m }) f
+            | yes l ↦
+                elim (ℕ-discrete u y) [
+                  | yes j ↦ no-edge-from-exit (q .bubbloid) g (rw j at e)
+                  | no j ↦ let (z, h, d) = interior-child (i .inside) (i .not-entrance) (i .not-exit) in a z h (on f j (rw l d))
+                ]
+          ]
+    ]
+
 pub apart-inside : {E E′ : Graph} {s t x y : ℕ} {N : Graph} → Thread E E′ s t N → (v : ℕ) × Interior E s t v → Superbubble E x y → s ≢ x
     → Apart E s t x y → SameInside E E′ x y
-apart-inside {E} {E′} {s} {t} {x} {y} k (w, i) q n a = record {
+apart-inside {E} {E′} {s} {t} {x} {y} k inner q n a = record {
   set = λ v. (λ f. carried-outside k (apart-clear (k .superbubble) q n a) f (λ j. a v j f), F-fewer (fewer k));
-  edges = λ u v f g. (λ e. k .edges u v .1 (e, λ p r. absurd (not-both u v f g p r e)), fewer k u v);
+  edges = λ u v f g. (λ e. k .edges u v .1 (e, λ p r. absurd (no-common-edge (k .superbubble) inner q a u v f g p r e)), fewer k u v);
 }
-  where
-    -- no edge inside x, y has both its ends in U
-    not-both : (u v : ℕ) → F E x y u → F E x y v → F E s t u → F E s t v → E u v → ⊥
-    not-both u v f g p r e =
-        elim (ℕ-discrete u t) [
-          | yes m ↦ no-edge-from-exit (bubbloid-of k) r (rw m at e)
-          | no m ↦
-              elim (ℕ-discrete u s) [
-                | no l ↦ a u (record { inside = p; not-entrance = l; not-exit = m }) f
-                | yes l ↦
-                    elim (ℕ-discrete u y) [
-                      | yes j ↦ no-edge-from-exit (q .bubbloid) g (rw j at e)
-                      | no j ↦ let (z, h, d) = interior-child (i .inside) (i .not-entrance) (i .not-exit) in a z h (on f j (rw l d))
-                    ]
-              ]
-        ]

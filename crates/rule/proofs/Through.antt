@@ -1,6 +1,6 @@
--- There is an arm, each interior vertex lies on one, and in a graph without a cycle each path from entrance to exit is an arm. Assumes nothing.
+-- There is an arm, each interior vertex lies on one, and each path from entrance to exit that repeats neither is an arm. Assumes nothing.
 use Prim.Native.Nat.{ℕ}
-use mathlib.Core.Path.{refl}
+use mathlib.Core.Path.{refl, sym}
 use mathlib.Core.Logic.{_≢_, ⊎-elim}
 use mathlib.Core.List.{List, [], _∷_, List·Memᴰ, List·Memᴰ·head, List·Memᴰ·tail, List·Memᴰ·not-nil, List·Memᴰ·cases-cons, List·Memᴰ·eq-of-singleton, Memᴰ·append-left}
 use native.Mathlib.Decide.{ℕ-discrete}
@@ -52,27 +52,28 @@ module _ {E : Graph} {s t : ℕ} (b : Bubbloid E s t) where
   pub some-arm : (l : List ℕ) × Arm E s t l
   some-arm = let r = to-exit (b .matching s .0 start) (b .distinct) in (r .inner, tail-arm r)
 
+-- a path to t that does not come to t before its end stays in F
+forward : {E : Graph} {s t u v : ℕ} {l : List ℕ} → F E s t u → Via E t u l → u ≢ t → (List·Memᴰ t l → ⊥) → List·Memᴰ v l → F E s t v
+forward f (bare e) n out m = absurd (List·Memᴰ·not-nil m)
+forward f (then e p) n out m =
+    let g = on f n e in
+    ⊎-elim (λ q. rw q g) (forward g p (λ q. out (List·Memᴰ·head (sym q))) (λ i. out (List·Memᴰ·tail i))) (List·Memᴰ·cases-cons m)
+
+-- a path from entrance to exit that repeats neither lies in U
+pub path-arm : {E : Graph} {s t : ℕ} {l : List ℕ} → Via E t s l → s ≢ t → (List·Memᴰ s l → ⊥) → (List·Memᴰ t l → ⊥) → Arm E s t l
+path-arm p distinct once-s once-t = record {
+  path = p;
+  inner = λ v m. record { inside = forward start p distinct once-t m; not-entrance = λ q. once-s (rw q at m); not-exit = λ q. once-t (rw q at m) };
+}
+
+-- in a graph without a cycle every path from one vertex to another repeats neither
 module _ {E : Graph} (a : NoCycle E) where
   -- each vertex of a path to t leads to t
   leads : {t u v : ℕ} {l : List ℕ} → Via E t u l → List·Memᴰ v (u ∷ l) → Walk E (λ x. Unit {0}) v t
   leads (bare e) m = let q = List·Memᴰ·eq-of-singleton m in rw q (edge tt e tt)
   leads (then e p) m = ⊎-elim (λ q. rw q (walk-before tt e (leads p (List·Memᴰ·head refl)))) (leads p) (List·Memᴰ·cases-cons m)
 
-  not-end : {t u v : ℕ} {l : List ℕ} → Via E t u l → List·Memᴰ v (u ∷ l) → v ≢ t
-  not-end {t} p m q = a t (rw q at (leads p m))
-
-  forward : {s t u v : ℕ} {l : List ℕ} → F E s t u → Via E t u l → List·Memᴰ v l → F E s t v
-  forward f (bare e) m = absurd (List·Memᴰ·not-nil m)
-  forward f (then e p) m =
-      let g = on f (not-end (then e p) (List·Memᴰ·head refl)) e in
-      ⊎-elim (λ q. rw q g) (forward g p) (List·Memᴰ·cases-cons m)
-
-  pub path-arm : {s t : ℕ} {l : List ℕ} → Via E t s l → Arm E s t l
-  path-arm {s} {t} {l} p = record {
-    path = p;
-    inner = λ v m. record {
-      inside = forward start p m;
-      not-entrance = λ q. let w : Walk E (λ x. Unit {0}) s v = via-walk tt (λ x i. tt) p (Memᴰ·append-left (t ∷ []) m) in a s (rw q at w);
-      not-exit = not-end p (List·Memᴰ·tail m);
-    };
-  }
+  pub acyclic-path-arm : {s t : ℕ} {l : List ℕ} → Via E t s l → Arm E s t l
+  acyclic-path-arm {s} {t} p =
+      path-arm p (λ q. a t (rw q at (leads p (List·Memᴰ·head refl)))) (λ m. a s (via-walk tt (λ x i. tt) p (Memᴰ·append-left (t ∷ []) m)))
+      (λ m. a t (leads p (List·Memᴰ·tail m)))

@@ -2,6 +2,7 @@
 pub mod Lists
 pub mod Kept
 pub mod Fold
+pub mod Rings
 pub mod Way
 pub mod Laws
 pub mod Tables
