@@ -11,6 +11,10 @@ use Rattle.search.specs.declared.Exit.{Exit}
 use Rattle.search.specs.declared.Exit.the-variants.{At, Nothing}
 use Rattle.parents.specs.Parents.{Parents}
 use Rattle.rule.specs.Lists.{Graph, CandidateSet}
+use Rattle.rule.specs.Rings.{Passable}
+use Rattle.rule.specs.Way.{candidates-of}
+use Rattle.rule.specs.declared.Rings.{Rings}
+use Rattle.rule.specs.declared.Rings.the-variants.{Refused, Taken}
 use Rattle.candidates.specs.Candidates.{no-exit}
 
 -- the vertices listed have the mark for none, the others are as they were
@@ -35,7 +39,7 @@ pub record ExitSet (order exits exits′ : List ℕ) (s t k : ℕ) : Type 0 wher
   pub empty : k < 2 → exits′ ≡ set exits s (no-exit (length exits))
   pub taken : 2 ≤ k → RuledOut (inner order k) (set exits s t) exits′ (no-exit (length exits))
 
--- what a search from s found can be noted
+-- what is left of what a search from s found can be noted
 abbrev pub Notable : List ℕ → List ℕ → ℕ → Exit → Type 0
 Notable order exits s (At t k) = ExitSettable order exits s k
 Notable order exits s Nothing = (s < length exits) × (length exits ≤ vertex-limit)
@@ -50,30 +54,35 @@ pub record Filled (E : Graph) (s t : ℕ) : Type 0 where
   pub superbubble : Superbubble E s t
   pub interior : (v : ℕ) × Interior E s t v
 
--- v is interior to a superbubble whose entrance is below s
-pub record Enclosed (E : Graph) (s v : ℕ) : Type 0 where
+-- the superbubbles that are taken, of which the outermost are the candidates: those with an interior; where rings are taken, those of them that are not skipped
+abbrev pub taken-of : Rings → CandidateSet
+taken-of Refused = Filled
+taken-of Taken = Passable
+
+-- v is interior to a superbubble that is taken and whose entrance is below s
+pub record Enclosed (P : CandidateSet) (E : Graph) (s v : ℕ) : Type 0 where
   pub entrance : ℕ
   pub exit : ℕ
   pub passed : entrance < s
-  pub superbubble : Superbubble E entrance exit
+  pub taken : P E entrance exit
   pub inside : Interior E entrance exit v
 
 -- the entrances below s are passed, of a graph with n vertices
-pub record Passed (C : CandidateSet) (E : Graph) (n s : ℕ) (exits : List ℕ) : Type 0 where
+pub record Passed (rings : Rings) (E : Graph) (n s : ℕ) (exits : List ℕ) : Type 0 where
   pub each : length exits ≡ n
-  -- one that is not ruled out has an exit, and an interior
-  pub taken : (v : ℕ) → v < s → getD exits v 0 ≢ no-exit n → (getD exits v 0 < n) × Filled E v (getD exits v 0)
+  -- one that is not ruled out has the exit of a superbubble that is taken
+  pub taken : (v : ℕ) → v < s → getD exits v 0 ≢ no-exit n → (getD exits v 0 < n) × taken-of rings E v (getD exits v 0)
   -- one that is ruled out begins no candidate
-  pub none : (v : ℕ) → v < s → getD exits v 0 ≡ no-exit n → (t : ℕ) → C E v t → ⊥
-  -- whatever is interior to a superbubble of theirs is ruled out
-  pub out : (v : ℕ) → Enclosed E s v → getD exits v 0 ≡ no-exit n
+  pub none : (v : ℕ) → v < s → getD exits v 0 ≡ no-exit n → (t : ℕ) → candidates-of rings E v t → ⊥
+  -- whatever is interior to one that they begin and that is taken is ruled out
+  pub out : (v : ℕ) → Enclosed (taken-of rings) E s v → getD exits v 0 ≡ no-exit n
   -- and of the entrances to come nothing else
-  pub enclosed : (v : ℕ) → s ≤ v → v < n → getD exits v 0 ≡ no-exit n → Enclosed E s v
+  pub enclosed : (v : ℕ) → s ≤ v → v < n → getD exits v 0 ≡ no-exit n → Enclosed (taken-of rings) E s v
 
 -- the same of a table, and what the search needs is as it was
-pub record Scan (C : CandidateSet) (rows : Rows) (parents pending order exits : List ℕ) (s : ℕ) : Type 0 where
+pub record Scan (rings : Rings) (rows : Rows) (parents pending order exits : List ℕ) (s : ℕ) : Type 0 where
   pub well-formed : Sound rows
   pub counted : Parents (size rows) (rows .targets) parents
   pub whole : pending ≡ parents
   pub room : size rows ≤ length order
-  pub passed : Passed C (edges rows) (size rows) s exits
+  pub passed : Passed rings (edges rows) (size rows) s exits

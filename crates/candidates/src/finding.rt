@@ -1,18 +1,20 @@
-// One search from each vertex that is not interior to a superbubble found before. Where it gives a superbubble with an interior, that interior is ruled out:
-// no candidate begins in it. In `exits` stands, for each of n vertices, the exit of the candidate that it is the entrance of, or n, which is no vertex's
+// One search from each vertex that is not interior to a superbubble taken before. Where it gives a superbubble with an interior, that interior is ruled out:
+// no candidate begins in it. Where rings are taken, one that is skipped rules out nothing. In `exits` stands, for each of n vertices, the exit of the candidate that it is the entrance of, or n, which is no vertex's
 // number, for none. A vertex that no search has come to has 0 there, which is not n: it is not ruled out.
 ghost use Prim.Native.Nat.{_+_, _<_};
 ghost use mathlib.Core.Path.{_≡_};
 ghost use lib.ListN.{length};
 ghost use Rattle.table.specs.Table.{vertices, Below};
-ghost use Rattle.rule.specs.Fold.{Candidate};
+ghost use Rattle.rule.specs.Way.{candidates-of};
 ghost use Rattle.candidates.specs.Candidates.{entrances, Findable, FindDone};
 ghost use Rattle.candidates.specs.Steps.{RuledOut, ExitSettable, ExitSet, Notable, Noted, Scan};
 use parents::clear;
 use parents::copy;
 use parents::count_parents;
+use rule::Rings;
 use search::Exit;
 use search::search;
+use skipping::admit;
 
 // Gives each of the vertices the mark for none.
 fn rule_out(interior: &[u32], exits: &mut [u32], none: u32)
@@ -41,7 +43,7 @@ fn set_exit(order: &[u32], exits: &mut [u32], s: usize, t: u32, k: usize)
     rule_out(&order[1..k], exits, none);
 }
 
-// Notes what the search from s found.
+// Notes what is left of what the search from s found.
 fn note(order: &[u32], exits: &mut [u32], s: usize, exit: Exit)
     requires { ⌜ Notable (now order) (now exits) s exit ⌝ }
     ensures { λ r. ⌜ Noted (now (order .entry)) (now (exits .entry)) (now (exits .exit)) s exit ⌝ }
@@ -57,6 +59,7 @@ fn note(order: &[u32], exits: &mut [u32], s: usize, exit: Exit)
 
 // Passes one entrance more. One that is ruled out is not searched from: whatever it begins lies in the interior that it lies in.
 fn pass_entrance(
+    rings: Rings,
     starts: &[u32],
     targets: &[u32],
     parents: &[u32],
@@ -67,7 +70,7 @@ fn pass_entrance(
 )
     requires { ⌜
         Scan
-        Candidate
+        rings
         (record { starts = now starts; targets = now targets })
         (now parents)
         (now pending)
@@ -79,7 +82,7 @@ fn pass_entrance(
     ensures { λ r.
         ⌜
         Scan
-        Candidate
+        rings
         (record { starts = now (starts .entry); targets = now (targets .entry) })
         (now (parents .entry))
         (now (pending .exit))
@@ -92,7 +95,8 @@ fn pass_entrance(
     if exits[s] as usize == none {
         return;
     }
-    let exit = search(starts, targets, parents, pending, order, s as u32);
+    let found = search(starts, targets, parents, pending, order, s as u32);
+    let exit = admit(rings, starts, targets, s as u32, found);
     note(order, exits, s, exit);
 }
 
@@ -114,6 +118,7 @@ fn count(exits: &[u32]) -> usize
 
 // Finds the candidates: each entrance's exit, and how many there are. The parents' counts are left as the search takes them.
 pub fn find(
+    rings: Rings,
     starts: &[u32],
     targets: &[u32],
     parents: &mut [u32],
@@ -132,7 +137,7 @@ pub fn find(
     ensures { λ r.
         ⌜
         FindDone
-        Candidate
+        (candidates-of rings)
         (record { starts = now (starts .entry); targets = now (targets .entry) })
         (now (parents .exit))
         (now (pending .exit))
@@ -147,7 +152,7 @@ pub fn find(
     let n = starts.len() - 1;
     let mut s: usize = 0;
     while s < n {
-        pass_entrance(starts, targets, parents, pending, order, exits, s);
+        pass_entrance(rings, starts, targets, parents, pending, order, exits, s);
         s += 1;
     }
     count(exits)

@@ -5,13 +5,13 @@ ghost use Rattle.table.specs.Table.{vertices};
 ghost use Rattle.rule.specs.Way.{the-fold};
 ghost use Rattle.entrances.specs.Turns.{Turning};
 ghost use Rattle.entrances.specs.Steps.{Room, CandidateAt, EntranceFolded, NextEntrance};
-use rule::Choosing;
+use rule::Mode;
 use search::Exit;
 use search::search;
 
 // Folds the candidate with the entrance s.
 fn fold_at(
-    by: Choosing,
+    mode: Mode,
     starts: &[u32],
     targets: &[u32],
     counts: &[u64],
@@ -35,15 +35,15 @@ fn fold_at(
         ⌝ }
     requires { ⌜
         CandidateAt
-        (the-fold by .candidates)
+        (the-fold mode .candidates)
         (record { rows = record { starts = now starts; targets = now targets }; counts = now counts })
         s
         ⌝ }
     ensures { λ r.
         ⌜
         EntranceFolded
-        (the-fold by .candidates)
-        (the-fold by .rule)
+        (the-fold mode .candidates)
+        (the-fold mode .rule)
         (record { rows = record { starts = now (starts .entry); targets = now (targets .entry) }; counts = now (counts .entry) })
         s
         (now (parents .entry))
@@ -61,7 +61,17 @@ fn fold_at(
     let Exit::At(t, k) = exit else {
         return;
     };
-    kept::keep(by, starts, targets, counts, &order[..k], t, best, next, out);
+    kept::keep(
+        mode,
+        starts,
+        targets,
+        counts,
+        &order[..k],
+        t,
+        best,
+        next,
+        out,
+    );
 }
 
 // The next entrance from a vertex on that has an exit, or n where there is none, or where no more are to be folded.
@@ -85,7 +95,7 @@ fn next_entrance(exits: &[u32], from: usize, more: usize) -> usize
 
 // Goes over all entrances; answers how many are folded.
 pub fn fold_all(
-    by: Choosing,
+    mode: Mode,
     starts: &[u32],
     targets: &[u32],
     counts: &[u64],
@@ -110,7 +120,7 @@ pub fn fold_all(
         ⌝ }
     requires { ⌜
         Turning
-        (the-fold by)
+        (the-fold mode)
         (record { rows = record { starts = now starts; targets = now targets }; counts = now counts })
         (now exits)
         (now next)
@@ -122,7 +132,7 @@ pub fn fold_all(
     ensures { λ r.
         ⌜
         Turning
-        (the-fold by)
+        (the-fold mode)
         (record { rows = record { starts = now (starts .entry); targets = now (targets .entry) }; counts = now (counts .entry) })
         (now (exits .entry))
         (now (next .exit))
@@ -136,7 +146,7 @@ pub fn fold_all(
     let mut s = next_entrance(exits, 0, budget);
     while s < exits.len() {
         fold_at(
-            by,
+            mode,
             starts,
             targets,
             counts,

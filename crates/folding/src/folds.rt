@@ -1,13 +1,16 @@
-// The fold of a table: checked, its room asked, its cycles looked for, and then written to the second set of slices.
+// The fold of a table: checked, its room asked, its cycles looked for, and then written to the second set of slices. Only in a table with a cycle can a superbubble be skipped:
+// one without is folded as where rings are refused, and no walk is made in it.
 ghost use mathlib.Core.Path.{_≡_};
 ghost use Rattle.table.specs.Verdict.{Says};
 ghost use Rattle.table.specs.Table.{Edge, WellFormed};
 ghost use Rattle.bubble.specs.Cycle.{Cyclic};
 ghost use Rattle.rule.specs.declared.Choosing.the-variants.{Sum, Weakest};
-ghost use Rattle.rule.specs.Way.{the-fold};
+ghost use Rattle.rule.specs.Way.{plain, ringed, the-fold};
 ghost use Rattle.folding.specs.Folding.{FoldDone, FoldedAt};
 ghost use Rattle.folding.specs.Steps.{FoldRoom};
 use rule::Choosing;
+use rule::Mode;
+use rule::Rings;
 use table::VERTEX_LIMIT;
 
 // What folding answers: the number, how many were folded, how many candidates remain in the new table, and the new edge count.
@@ -41,7 +44,7 @@ fn cyclic(starts: &[u32], targets: &[u32]) -> bool
 
 // Folds a table, with a slice that has room for the number of every vertex.
 fn fold_in(
-    by: Choosing,
+    mode: Mode,
     starts: &[u32],
     targets: &[u32],
     counts: &[u64],
@@ -53,7 +56,7 @@ fn fold_in(
 ) -> Folded
     requires { ⌜
         FoldRoom
-        (the-fold by)
+        (the-fold mode)
         (record { rows = record { starts = now starts; targets = now targets }; counts = now counts })
         (now next)
         (record { rows = record { starts = now starts2; targets = now targets2 }; counts = now counts2 })
@@ -62,7 +65,7 @@ fn fold_in(
         ⌜
         (r .number ≡ 0)
         × FoldedAt
-        (the-fold by)
+        (the-fold mode)
         (record { rows = record { starts = now (starts .entry); targets = now (targets .entry) }; counts = now (counts .entry) })
         budget
         (record { rows = record { starts = now (starts2 .entry); targets = now (targets2 .entry) }; counts = now (counts2 .entry) })
@@ -72,7 +75,15 @@ fn fold_in(
 {
     let n = starts.len() - 1;
     let rows = &mut next[..n];
-    let turned = turns::turn(by, starts, targets, counts, budget, rows, &mut counts2[..n]);
+    let turned = turns::turn(
+        mode,
+        starts,
+        targets,
+        counts,
+        budget,
+        rows,
+        &mut counts2[..n],
+    );
     let edges = staying::write_table(starts, targets, rows, starts2, targets2);
     Folded {
         number: 0,
@@ -82,10 +93,10 @@ fn fold_in(
     }
 }
 
-// Folds a table by a budget into a second set of slices, each candidate to the path that is chosen: 1 to 7, then 8, then 9, the smallest, or 0 with folded, left and
-// edges.
+// Folds a table by a budget into a second set of slices, each candidate to the path that is chosen: 1 to 7, then 8, then, where rings are refused, 9, the first of them, or 0
+// with folded, left and edges.
 pub fn fold_by(
-    by: Choosing,
+    mode: Mode,
     starts: &[u32],
     targets: &[u32],
     counts: &[u64],
@@ -97,7 +108,7 @@ pub fn fold_by(
     ensures { λ r.
         ⌜
         FoldDone
-        (the-fold by)
+        (the-fold mode)
         (record { rows = record { starts = now (starts .entry); targets = now (targets .entry) }; counts = now (counts .entry) })
         budget
         (record { rows = record { starts = now (starts2 .entry); targets = now (targets2 .entry) }; counts = now (counts2 .entry) })
@@ -119,12 +130,31 @@ pub fn fold_by(
     if counts2.len() < n {
         return refused(8);
     }
-    if cyclic(starts, targets) {
-        return refused(9);
-    }
     let mut next = [0u32; VERTEX_LIMIT];
-    fold_in(
+    if cyclic(starts, targets) {
+        let rings = mode.rings;
+        let Rings::Taken = rings else {
+            return refused(9);
+        };
+        return fold_in(
+            mode,
+            starts,
+            targets,
+            counts,
+            budget as usize,
+            &mut next,
+            starts2,
+            targets2,
+            counts2,
+        );
+    }
+    let by = mode.by;
+    let plain = Mode {
+        rings: Rings::Refused,
         by,
+    };
+    fold_in(
+        plain,
         starts,
         targets,
         counts,
@@ -136,7 +166,7 @@ pub fn fold_by(
     )
 }
 
-// The fold of version 1: the path with the largest sum of inner counts is kept.
+// The fold of version 1: the path with the largest sum of inner counts is kept. A table with a directed cycle is refused.
 pub fn fold(
     starts: &[u32],
     targets: &[u32],
@@ -149,7 +179,7 @@ pub fn fold(
     ensures { λ r.
         ⌜
         FoldDone
-        (the-fold Sum)
+        (the-fold (plain Sum))
         (record { rows = record { starts = now (starts .entry); targets = now (targets .entry) }; counts = now (counts .entry) })
         budget
         (record { rows = record { starts = now (starts2 .entry); targets = now (targets2 .entry) }; counts = now (counts2 .entry) })
@@ -157,8 +187,12 @@ pub fn fold(
         r
         ⌝ }
 {
+    let mode = Mode {
+        rings: Rings::Refused,
+        by: Choosing::Sum,
+    };
     fold_by(
-        Choosing::Sum,
+        mode,
         starts,
         targets,
         counts,
@@ -169,7 +203,7 @@ pub fn fold(
     )
 }
 
-// The fold of version 2: the path with the largest least inner count is kept, and never the bare edge.
+// The fold of version 2: the path with the largest least inner count is kept, and never the bare edge. A table with a directed cycle is refused.
 pub fn fold_weakest(
     starts: &[u32],
     targets: &[u32],
@@ -182,7 +216,7 @@ pub fn fold_weakest(
     ensures { λ r.
         ⌜
         FoldDone
-        (the-fold Weakest)
+        (the-fold (plain Weakest))
         (record { rows = record { starts = now (starts .entry); targets = now (targets .entry) }; counts = now (counts .entry) })
         budget
         (record { rows = record { starts = now (starts2 .entry); targets = now (targets2 .entry) }; counts = now (counts2 .entry) })
@@ -190,8 +224,86 @@ pub fn fold_weakest(
         r
         ⌝ }
 {
+    let mode = Mode {
+        rings: Rings::Refused,
+        by: Choosing::Weakest,
+    };
     fold_by(
-        Choosing::Weakest,
+        mode,
+        starts,
+        targets,
+        counts,
+        budget,
+        starts2,
+        targets2,
+        counts2,
+    )
+}
+
+// The fold of version 1 that takes rings: any well-formed table, in which a superbubble with a bare edge whose exit reaches its entrance is skipped.
+pub fn fold_rings(
+    starts: &[u32],
+    targets: &[u32],
+    counts: &[u64],
+    budget: u32,
+    starts2: &mut [u32],
+    targets2: &mut [u32],
+    counts2: &mut [u64],
+) -> Folded
+    ensures { λ r.
+        ⌜
+        FoldDone
+        (the-fold (ringed Sum))
+        (record { rows = record { starts = now (starts .entry); targets = now (targets .entry) }; counts = now (counts .entry) })
+        budget
+        (record { rows = record { starts = now (starts2 .entry); targets = now (targets2 .entry) }; counts = now (counts2 .entry) })
+        (record { rows = record { starts = now (starts2 .exit); targets = now (targets2 .exit) }; counts = now (counts2 .exit) })
+        r
+        ⌝ }
+{
+    let mode = Mode {
+        rings: Rings::Taken,
+        by: Choosing::Sum,
+    };
+    fold_by(
+        mode,
+        starts,
+        targets,
+        counts,
+        budget,
+        starts2,
+        targets2,
+        counts2,
+    )
+}
+
+// The fold of version 2 that takes rings.
+pub fn fold_rings_weakest(
+    starts: &[u32],
+    targets: &[u32],
+    counts: &[u64],
+    budget: u32,
+    starts2: &mut [u32],
+    targets2: &mut [u32],
+    counts2: &mut [u64],
+) -> Folded
+    ensures { λ r.
+        ⌜
+        FoldDone
+        (the-fold (ringed Weakest))
+        (record { rows = record { starts = now (starts .entry); targets = now (targets .entry) }; counts = now (counts .entry) })
+        budget
+        (record { rows = record { starts = now (starts2 .entry); targets = now (targets2 .entry) }; counts = now (counts2 .entry) })
+        (record { rows = record { starts = now (starts2 .exit); targets = now (targets2 .exit) }; counts = now (counts2 .exit) })
+        r
+        ⌝ }
+{
+    let mode = Mode {
+        rings: Rings::Taken,
+        by: Choosing::Weakest,
+    };
+    fold_by(
+        mode,
         starts,
         targets,
         counts,

@@ -4,4 +4,6 @@ mod folds;
 pub use folds::Folded;
 pub use folds::fold;
 pub use folds::fold_by;
+pub use folds::fold_rings;
+pub use folds::fold_rings_weakest;
 pub use folds::fold_weakest;

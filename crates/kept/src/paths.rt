@@ -8,6 +8,7 @@ ghost use Rattle.kept.specs.Steps.{end-at, Settleable, SettledFrom, Led,
 ghost use Rattle.kept.specs.Keeping.{Keepable, KeptDone};
 use children::choose;
 use rule::Choosing;
+use rule::Mode;
 use sharing::share;
 use table::READ_LIMIT;
 
@@ -213,7 +214,7 @@ fn sift(counts: &[u64], visited: &[u32], next: &mut [u32], out: &mut [u64], rowl
 // Keeps the best path of one candidate, whose U less its exit t is visited: `next` takes the vertex after each vertex of the path, and n + 1 for each
 // dropped one; `out` takes 0 for each dropped vertex, and for each inner vertex of the path its count and its portion of theirs.
 pub fn keep(
-    by: Choosing,
+    mode: Mode,
     starts: &[u32],
     targets: &[u32],
     counts: &[u64],
@@ -225,7 +226,7 @@ pub fn keep(
 )
     requires { ⌜
         Keepable
-        (the-fold by .candidates)
+        (the-fold mode .candidates)
         (record { rows = record { starts = now starts; targets = now targets }; counts = now counts })
         (now visited)
         t
@@ -236,8 +237,8 @@ pub fn keep(
     ensures { λ r.
         ⌜
         KeptDone
-        (the-fold by .candidates)
-        (the-fold by .rule)
+        (the-fold mode .candidates)
+        (the-fold mode .rule)
         (record { rows = record { starts = now (starts .entry); targets = now (targets .entry) }; counts = now (counts .entry) })
         (getD (now (visited .entry)) 0 0)
         t
@@ -249,6 +250,7 @@ pub fn keep(
         (now (out .exit))
         ⌝ }
 {
+    let by = mode.by;
     lead(by, starts, targets, counts, visited, t, best, next);
     let rowless = starts.len() as u32;
     let along = sift(counts, visited, next, out, rowless);

@@ -6,6 +6,7 @@ use Rattle.bubble.specs.Cycle.{Cyclic}
 use Rattle.rule.specs.Lists.{Graph, CandidateSet}
 use Rattle.rule.specs.Fold.{NoCycle, Candidate, Rule, kept-shares}
 use Rattle.rule.specs.Rings.{RingCandidate}
+use Rattle.rule.specs.declared.Choosing.{Choosing}
 use Rattle.rule.specs.declared.Mode.{Mode}
 use Rattle.rule.specs.declared.Rings.{Rings}
 use Rattle.rule.specs.declared.Rings.the-variants.{Refused, Taken}
@@ -40,6 +41,13 @@ candidates-of Taken = RingCandidate
 -- with rings refused or taken, by a rule
 abbrev pub fold-with : Rings → Rule → Way
 fold-with rings R = record { Kind = kind-of rings; asked = asked-of rings; candidates = candidates-of rings; rule = R }
+
+-- rings refused, as docs/RULES.md, Fold, has it, and taken, as Rings has it
+abbrev pub plain : Choosing → Mode
+plain by = record { rings = Refused; by = by }
+
+abbrev pub ringed : Choosing → Mode
+ringed by = record { rings = Taken; by = by }
 
 -- the folds of docs/RULES.md
 abbrev pub the-fold : Mode → Way

@@ -8,7 +8,7 @@ ghost use Rattle.turns.specs.Steps.{Arrays, Unturned};
 use entrances::fold_all;
 use fills::copy_counts;
 use fills::fill;
-use rule::Choosing;
+use rule::Mode;
 use table::VERTEX_LIMIT;
 
 // How many candidates there are, and how many were folded.
@@ -19,7 +19,7 @@ pub struct Turned {
 
 // Folds the first candidates with slices to work on that have room for every vertex, where each row is whole and each count as it was.
 fn turn_in(
-    by: Choosing,
+    mode: Mode,
     starts: &[u32],
     targets: &[u32],
     counts: &[u64],
@@ -33,7 +33,7 @@ fn turn_in(
     requires { ⌜ Arrays (now parents) (now pending) (now exits) ⌝ }
     requires { ⌜
         Unturned
-        (the-fold by)
+        (the-fold mode)
         (record { rows = record { starts = now starts; targets = now targets }; counts = now counts })
         (now next)
         (now out)
@@ -41,7 +41,7 @@ fn turn_in(
     ensures { λ r.
         ⌜
         TurnDone
-        (the-fold by)
+        (the-fold mode)
         (record { rows = record { starts = now (starts .entry); targets = now (targets .entry) }; counts = now (counts .entry) })
         budget
         (now (next .exit))
@@ -54,10 +54,11 @@ fn turn_in(
     let pending = &mut pending[..n];
     let exits = &mut exits[..n];
     let mut order = [0u32; VERTEX_LIMIT];
-    let found = candidates::find(starts, targets, parents, pending, &mut order, exits);
+    let rings = mode.rings;
+    let found = candidates::find(rings, starts, targets, parents, pending, &mut order, exits);
     let mut best = [0u64; VERTEX_LIMIT];
     let folded = fold_all(
-        by,
+        mode,
         starts,
         targets,
         counts,
@@ -76,7 +77,7 @@ fn turn_in(
 // Folds the first candidates of a table, as many as the budget or all if fewer: `next` takes one number a vertex that says what stays of its row, `out` its
 // new count.
 pub fn turn(
-    by: Choosing,
+    mode: Mode,
     starts: &[u32],
     targets: &[u32],
     counts: &[u64],
@@ -86,7 +87,7 @@ pub fn turn(
 ) -> Turned
     requires { ⌜
         FoldReady
-        (the-fold by)
+        (the-fold mode)
         (record { rows = record { starts = now starts; targets = now targets }; counts = now counts })
         (now next)
         (now out)
@@ -94,7 +95,7 @@ pub fn turn(
     ensures { λ r.
         ⌜
         TurnDone
-        (the-fold by)
+        (the-fold mode)
         (record { rows = record { starts = now (starts .entry); targets = now (targets .entry) }; counts = now (counts .entry) })
         budget
         (now (next .exit))
@@ -109,7 +110,7 @@ pub fn turn(
     let mut pending = [0u32; VERTEX_LIMIT];
     let mut exits = [0u32; VERTEX_LIMIT];
     turn_in(
-        by,
+        mode,
         starts,
         targets,
         counts,

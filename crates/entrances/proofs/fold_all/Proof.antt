@@ -14,13 +14,13 @@ use Rattle.entrances.proofs.fold_all.Statement.{statement}
 use Rattle.entrances.proofs.fold_all.Tie as tie
 
 abbrev Inv-loop : tie.InvT-loop
-Inv-loop by starts targets counts parents pending₀ order₀ exits best₀ next₀ out₀ budget folded₀ s₀ pending order best next out folded s =
+Inv-loop mode starts targets counts parents pending₀ order₀ exits best₀ next₀ out₀ budget folded₀ s₀ pending order best next out folded s =
     let table : Table = record { rows = record { starts = starts; targets = targets }; counts = counts } in
-    Room table parents pending order best next out × Turning (the-fold by) table exits next out budget s folded
+    Room table parents pending order best next out × Turning (the-fold mode) table exits next out budget s folded
     × (s < length exits → (getD exits s 0 < length exits) × (folded < budget)) × (length order ≡ length order₀) × (length best ≡ length best₀)
 
 abbrev μ-loop : tie.MeasureT-loop
-μ-loop by starts targets counts parents pending₀ order₀ exits best₀ next₀ out₀ budget folded₀ s₀ pending order best next out folded s = length exits - s
+μ-loop mode starts targets counts parents pending₀ order₀ exits best₀ next₀ out₀ budget folded₀ s₀ pending order best next out folded s = length exits - s
 
 -- The places that the needs look back to, each seen from a place nearer to them.
 abbrev entry : tie.After-next-entrance Inv-loop μ-loop → tie.Start Inv-loop μ-loop
@@ -49,7 +49,7 @@ loop-holds c = let pre = entry c .pre in
 fold-at-requires : tie.Need-fold-at-requires Inv-loop μ-loop
 fold-at-requires c κs = let inv = at-loop c .loop .inv in
     let inside = in-loop c .loop-test .taken in
-    (inv .0, turning-candidate (inv .1) (the-fold-lawful (entry (after-next-entrance c) .args .by)) (inv .0 .counted) inside (inv .2 inside .0))
+    (inv .0, turning-candidate (inv .1) (the-fold-lawful (entry (after-next-entrance c) .args .mode)) (inv .0 .counted) inside (inv .2 inside .0))
 
 add-folded : tie.Need-add-folded Inv-loop μ-loop
 add-folded c = let call = after-fold-at c .before in
@@ -73,9 +73,9 @@ loop-again c = let inv = at-loop (after-fold-at (c .before) .before) .loop .inv 
     let inside = in-loop (after-fold-at (c .before) .before) .loop-test .taken in
     let call = after-fold-at (c .before) .fold-at in
     let after = c .next-entrance2 .ensures in
-    let by = entry (after-next-entrance (after-fold-at (c .before) .before)) .args .by in (
+    let mode = entry (after-next-entrance (after-fold-at (c .before) .before)) .args .mode in (
       call .ensures .room,
-      turning-to (turning-more (inv .1) (the-fold-lawful by) (inv .0 .counted) inside (inv .2 inside .0) (inv .2 inside .1) (call .ensures)) after (λ l. omega arith),
+      turning-to (turning-more (inv .1) (the-fold-lawful mode) (inv .0 .counted) inside (inv .2 inside .0) (inv .2 inside .1) (call .ensures)) after (λ l. omega arith),
       λ h. (after .entrance h .0, omega (arith, after .entrance h .1)),
       call .kept .1 .1 .1 .1 .1 .1 .0 ∙ inv .3,
       call .kept .1 .1 .1 .1 .1 .1 .1 .0 ∙ inv .4,

@@ -5,19 +5,17 @@ use native.Mathlib.Omega.{arith}
 use lib.ListN.{length}
 use borrow.Author.Needs.{needs}
 use Rattle.table.specs.Table.{vertices}
-use Rattle.rule.specs.Fold.{Candidate}
 use Rattle.candidates.specs.Steps.{Scan}
-use Rattle.candidates.proofs.PassLaws.{candidate-by-entrance}
 use Rattle.candidates.proofs.ScanLaws.{scan-start, scan-done}
 use Rattle.candidates.proofs.finding.find.Statement.{statement}
 use Rattle.candidates.proofs.finding.find.Tie as tie
 
 abbrev Inv-loop : tie.InvT-loop
-Inv-loop starts targets parents pending₀ order₀ exits₀ n s₀ pending order exits s =
-    (n ≡ vertices starts) × (length order ≡ length order₀) × Scan Candidate (record { starts = starts; targets = targets }) parents pending order exits s
+Inv-loop rings starts targets parents pending₀ order₀ exits₀ n s₀ pending order exits s =
+    (n ≡ vertices starts) × (length order ≡ length order₀) × Scan rings (record { starts = starts; targets = targets }) parents pending order exits s
 
 abbrev μ-loop : tie.MeasureT-loop
-μ-loop starts targets parents pending₀ order₀ exits₀ n s₀ pending order exits s = n - s
+μ-loop rings starts targets parents pending₀ order₀ exits₀ n s₀ pending order exits s = n - s
 
 -- The places that the needs look back to, each seen from a place nearer to them.
 abbrev entry : tie.After-copy Inv-loop μ-loop → tie.Start Inv-loop μ-loop
@@ -73,7 +71,7 @@ loop-less c = omega (arith, in-loop (after-pass-entrance c .before) .loop-test .
 
 loop-again : tie.Need-loop-again Inv-loop μ-loop
 loop-again c = let inv = at-loop (after-pass-entrance c .before) .loop .inv in
-    (inv .0, after-pass-entrance c .pass-entrance .kept .1 .1 .1 .1 .0 ∙ inv .1, after-pass-entrance c .pass-entrance .ensures)
+    (inv .0, after-pass-entrance c .pass-entrance .kept .1 .1 .1 .1 .1 .0 ∙ inv .1, after-pass-entrance c .pass-entrance .ensures)
 
 count-requires : tie.Need-count-requires Inv-loop μ-loop
 count-requires c κs = search needs
@@ -91,7 +89,7 @@ same-length-4 : tie.Need-same-length-4 Inv-loop μ-loop
 same-length-4 c = c .before .before .before .loop .inv .2 .passed .each ∙ sym (entry (after-copy (after-clear c)) .pre .exits-long)
 
 returns : tie.Need-returns Inv-loop μ-loop
-returns c = scan-done candidate-by-entrance (c .before .before .before .loop .inv .2) (omega arith) (c .count .ensures)
+returns c = scan-done (c .before .before .before .loop .inv .2) (omega arith) (c .count .ensures)
 
 pub find-spec : {M : Type 1} → statement M
 find-spec =

@@ -1,0 +1,3 @@
+-- The laws of `reaching`, in the order in which one reads them. Assumes nothing.
+pub mod SpreadLaws
+pub mod ReachLaws

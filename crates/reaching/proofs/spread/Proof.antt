@@ -1,0 +1,108 @@
+-- `reaching::spread` meets its contract. The loop's invariant: the first k of the row are passed. Assumes nothing.
+use Prim.Native.Nat.{ℕ, _-_, _≤_, _<_}
+use mathlib.Core.Path.{_≡_}
+use native.Mathlib.Omega.{arith}
+use lib.ListN.{length, getD}
+use borrow.Author.Needs.{needs}
+use Rattle.table.specs.Limits.{vertex-limit}
+use Rattle.reaching.specs.Steps.{Spread}
+use Rattle.reaching.proofs.SpreadLaws.{room, spread-none, spread-marked, spread-more}
+use Rattle.reaching.proofs.spread.Statement.{statement}
+use Rattle.reaching.proofs.spread.Tie as tie
+
+abbrev Inv-loop : tie.InvT-loop
+Inv-loop row marks₀ queue₀ tail end₀ k₀ marks queue end k = (k ≤ length row) × Spread row queue₀ tail k marks queue end
+
+abbrev μ-loop : tie.MeasureT-loop
+μ-loop row marks₀ queue₀ tail end₀ k₀ marks queue end k = length row - k
+
+-- The places that the needs look back to, each seen from a place nearer to them.
+abbrev entry : tie.After-shared-slice-known Inv-loop μ-loop → tie.Start Inv-loop μ-loop
+entry c = c .before .before .before
+
+abbrev at-loop : tie.After-shared-slice-known Inv-loop μ-loop → tie.At-loop Inv-loop μ-loop
+at-loop c = c .before .before
+
+-- the vertex at the place
+abbrev here : tie.After-shared-slice-known Inv-loop μ-loop → ℕ
+here c = getD (entry c .args .row .now) (at-loop c .loop .k) 0
+
+is-vertex : (c : tie.After-shared-slice-known Inv-loop μ-loop) → here c < vertex-limit
+is-vertex c = entry c .pre .below (at-loop c .loop .k) (c .before .loop-test .taken)
+
+-- where it is not marked, the queue has room for it
+has-room : (c : tie.Then1 Inv-loop μ-loop) → at-loop (c .before .before) .loop .end < vertex-limit
+has-room c = room (at-loop (c .before .before) .loop .inv .1 .queued) (is-vertex (c .before .before)) (c .if1 .taken)
+
+loop-holds : tie.Need-loop-holds Inv-loop μ-loop
+loop-holds c = (omega arith, spread-none (c .pre .queued))
+
+mul-u : tie.Need-mul-u Inv-loop μ-loop
+mul-u c = search needs
+
+shared-slice-read-u : tie.Need-shared-slice-read-u Inv-loop μ-loop
+shared-slice-read-u c = search needs
+
+cast-u : tie.Need-cast-u Inv-loop μ-loop
+cast-u c = omega (arith, is-vertex c)
+
+add-k : tie.Need-add-k Inv-loop μ-loop
+add-k c = search needs
+
+element-copy-out-if1 : tie.Need-element-copy-out-if1 Inv-loop μ-loop
+element-copy-out-if1 c = is-vertex c
+
+element-write-marks : tie.Need-element-write-marks Inv-loop μ-loop
+element-write-marks c = is-vertex (c .before .before)
+
+cast-queue : tie.Need-cast-queue Inv-loop μ-loop
+cast-queue c = omega (arith, is-vertex (c .before .before))
+
+mul-queue : tie.Need-mul-queue Inv-loop μ-loop
+mul-queue c = omega (arith, has-room c)
+
+element-write-queue : tie.Need-element-write-queue Inv-loop μ-loop
+element-write-queue c = has-room c
+
+add-end : tie.Need-add-end Inv-loop μ-loop
+add-end c = omega (arith, has-room c)
+
+loop-less : tie.Need-loop-less Inv-loop μ-loop
+loop-less c = search needs
+
+loop-again : tie.Need-loop-again Inv-loop μ-loop
+loop-again c = let taken = c .before .before .before .loop-test .taken in
+    (omega (arith, taken), spread-more (at-loop (c .before .before) .loop .inv .1) taken (is-vertex (c .before .before)) (c .if1 .taken))
+
+loop-less-2 : tie.Need-loop-less-2 Inv-loop μ-loop
+loop-less-2 c = search needs
+
+loop-again-2 : tie.Need-loop-again-2 Inv-loop μ-loop
+loop-again-2 c = (omega arith, spread-marked (at-loop (c .before .before) .loop .inv .1) (c .if1 .left))
+
+returns : tie.Need-returns Inv-loop μ-loop
+returns c = let all : c .before .loop .k ≡ length (c .before .before .args .row .now) = omega arith in
+    rw all at (c .before .loop .inv .1)
+
+pub spread-spec : {M : Type 1} → statement M
+spread-spec =
+    tie.close
+    (tie.spec
+    Inv-loop
+    μ-loop
+    loop-holds
+    mul-u
+    shared-slice-read-u
+    cast-u
+    add-k
+    element-copy-out-if1
+    element-write-marks
+    cast-queue
+    mul-queue
+    element-write-queue
+    add-end
+    loop-less
+    loop-again
+    loop-less-2
+    loop-again-2
+    returns)

@@ -1,0 +1,2 @@
+-- The laws of `skipping`. Assumes nothing.
+pub mod SkipLaws

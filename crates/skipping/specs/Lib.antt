@@ -1,0 +1,2 @@
+-- The definitions of `skipping`. Assumes nothing.
+pub mod Skipping
