@@ -33,10 +33,9 @@ pub record Spread (row queue : List ℕ) (tail k : ℕ) (marks′ queue′ : Lis
   pub listed : (i : ℕ) → tail ≤ i → i < tail′ → In (getD queue′ i 0) row
   pub passed : (j : ℕ) → j < k → Marked marks′ (getD row j 0)
 
--- a walk to another vertex can begin: nothing is marked
+-- a walk can begin: nothing is marked
 pub record WalkReady (starts targets marks queue : List ℕ) (from to : ℕ) : Type 0 where
   pub asked : Askable starts targets from to
-  pub other : from ≡ to → ⊥
   pub marks-room : length marks ≡ vertex-limit
   pub queue-room : length queue ≡ vertex-limit
   pub unmarked : (v : ℕ) → getD marks v 0 ≡ 0

@@ -34,8 +34,8 @@ fn spread(
     end
 }
 
-// The walk from one vertex to another one, with nothing marked. The first `head` of the queue have their rows passed, those up to `tail` are met.
-fn reaches_other(
+// The walk, with nothing marked. The rows of the first `head` of the queue are passed, and those up to `tail` are met.
+fn reaches_with(
     starts: &[u32],
     targets: &[u32],
     marks: &mut [u8; VERTEX_LIMIT],
@@ -51,11 +51,11 @@ fn reaches_other(
     let mut head = 0;
     let mut tail = 1;
     while head < tail {
-        let v = queue[head] as usize;
-        tail = spread(table::row(starts, targets, v), marks, queue, tail);
         if marks[to as usize] != 0 {
             return true;
         }
+        let v = queue[head] as usize;
+        tail = spread(table::row(starts, targets, v), marks, queue, tail);
         head += 1;
     }
     false
@@ -66,10 +66,7 @@ pub fn reaches(starts: &[u32], targets: &[u32], from: u32, to: u32) -> bool
     requires { ⌜ Askable (now starts) (now targets) from to ⌝ }
     ensures { λ r. ⌜ Says r (Reaches (Edge (now (starts .entry)) (now (targets .entry))) from to) ⌝ }
 {
-    if from == to {
-        return true;
-    }
     let mut marks = [0u8; VERTEX_LIMIT];
     let mut queue = [0u16; VERTEX_LIMIT];
-    reaches_other(starts, targets, &mut marks, &mut queue, from, to)
+    reaches_with(starts, targets, &mut marks, &mut queue, from, to)
 }

@@ -4,7 +4,7 @@ use native.Mathlib.Omega.{arith}
 use lib.Seq.{length-take-le}
 use Rattle.search.specs.declared.Exit.the-variants.{At}
 use Rattle.search.specs.Search.{Sought}
-use Rattle.rule.proofs.Candidates.{candidate-laws}
+use Rattle.rule.proofs.TheFold.{candidates-lawful}
 use Rattle.entrances.proofs.EntranceLaws.{entrance-searchable, entrance-found, entrance-keepable, entrance-folded}
 use borrow.Author.Needs.{needs}
 use Rattle.entrances.proofs.fold_at.Statement.{statement}
@@ -38,7 +38,7 @@ cast-search : tie.Need-cast-search
 cast-search c = omega (arith, entry c .pre .1 .vertex, entry c .pre .0 .counted .well-formed .most-vertices)
 
 search-requires : tie.Need-search-requires
-search-requires c κs = entrance-searchable candidate-laws (entry c .pre .0) (entry c .pre .1)
+search-requires c κs = entrance-searchable (candidates-lawful (entry c .args .mode .rings)) (entry c .pre .0) (entry c .pre .1)
 
 enum-known-exit : tie.Need-enum-known-exit
 enum-known-exit c = search needs
@@ -55,7 +55,7 @@ same-length-2 c = search needs
 returns : tie.Need-returns
 returns c =
     let c-entry = entry (after-search (c .before .before) .before) in
-    absurd (entrance-found candidate-laws (c-entry .pre .0) (c-entry .pre .1) (rw (c .enum-told .given .1) at (c .before .before .before .before .before .before .search .ensures)))
+    absurd (entrance-found (candidates-lawful (c-entry .args .mode .rings)) (c-entry .pre .0) (c-entry .pre .1) (rw (c .enum-told .given .1) at (c .before .before .before .before .before .before .search .ensures)))
 
 slice-reshare-prefix-keep : tie.Need-slice-reshare-prefix-keep
 slice-reshare-prefix-keep c = sought (c .before) .searched .room
@@ -67,7 +67,7 @@ slice-aggregate-keep c = let order = after-search (c .before .before .before .be
 keep-requires : tie.Need-keep-requires
 keep-requires c κs =
     let c-entry = entry (after-search (after-slice-known7 c) .before) in
-    entrance-keepable candidate-laws (c-entry .pre .0) (c-entry .pre .1) (sought (after-exit c))
+    entrance-keepable (candidates-lawful (c-entry .args .mode .rings)) (c-entry .pre .0) (c-entry .pre .1) (sought (after-exit c))
 
 same-length-3 : tie.Need-same-length-3
 same-length-3 c = search needs
@@ -87,7 +87,7 @@ same-length-7 c = search needs
 returns-2 : tie.Need-returns-2
 returns-2 c =
     let c-entry = entry (after-search (after-slice-known7 (after-keep c .before)) .before) in
-    entrance-folded candidate-laws (c-entry .pre .0) (c-entry .pre .1) (sought (after-exit (after-keep c .before))) (after-keep c .keep .ensures)
+    entrance-folded (candidates-lawful (c-entry .args .mode .rings)) (c-entry .pre .0) (c-entry .pre .1) (sought (after-exit (after-keep c .before))) (after-keep c .keep .ensures)
 
 pub fold-at-spec : {M : Type 1} → statement M
 fold-at-spec =

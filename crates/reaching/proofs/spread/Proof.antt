@@ -1,5 +1,5 @@
 -- `reaching::spread` meets its contract. The loop's invariant: the first k of the row are passed. Assumes nothing.
-use Prim.Native.Nat.{ℕ, _-_, _≤_, _<_}
+use Prim.Native.Nat.{_-_, _≤_, _<_}
 use mathlib.Core.Path.{_≡_}
 use native.Mathlib.Omega.{arith}
 use lib.ListN.{length, getD}
@@ -17,22 +17,16 @@ abbrev μ-loop : tie.MeasureT-loop
 μ-loop row marks₀ queue₀ tail end₀ k₀ marks queue end k = length row - k
 
 -- The places that the needs look back to, each seen from a place nearer to them.
-abbrev entry : tie.After-shared-slice-known Inv-loop μ-loop → tie.Start Inv-loop μ-loop
-entry c = c .before .before .before
+abbrev at-loop : tie.Else1 Inv-loop μ-loop → tie.At-loop Inv-loop μ-loop
+at-loop c = c .before .before .before .before
 
-abbrev at-loop : tie.After-shared-slice-known Inv-loop μ-loop → tie.At-loop Inv-loop μ-loop
-at-loop c = c .before .before
-
--- the vertex at the place
-abbrev here : tie.After-shared-slice-known Inv-loop μ-loop → ℕ
-here c = getD (entry c .args .row .now) (at-loop c .loop .k) 0
-
-is-vertex : (c : tie.After-shared-slice-known Inv-loop μ-loop) → here c < vertex-limit
-is-vertex c = entry c .pre .below (at-loop c .loop .k) (c .before .loop-test .taken)
+-- the next of the row is a vertex
+is-vertex : (c : tie.After-shared-slice-known Inv-loop μ-loop) → getD (c .before .before .before .args .row .now) (c .before .before .loop .k) 0 < vertex-limit
+is-vertex c = c .before .before .before .pre .below (c .before .before .loop .k) (omega arith)
 
 -- where it is not marked, the queue has room for it
-has-room : (c : tie.Then1 Inv-loop μ-loop) → at-loop (c .before .before) .loop .end < vertex-limit
-has-room c = room (at-loop (c .before .before) .loop .inv .1 .queued) (is-vertex (c .before .before)) (c .if1 .taken)
+has-room : (c : tie.Then1 Inv-loop μ-loop) → c .before .before .before .before .loop .end < vertex-limit
+has-room c = room (c .before .before .before .before .loop .inv .1 .queued) (is-vertex (c .before .before)) (c .if1 .taken)
 
 loop-holds : tie.Need-loop-holds Inv-loop μ-loop
 loop-holds c = (omega arith, spread-none (c .pre .queued))
@@ -71,14 +65,13 @@ loop-less : tie.Need-loop-less Inv-loop μ-loop
 loop-less c = search needs
 
 loop-again : tie.Need-loop-again Inv-loop μ-loop
-loop-again c = let taken = c .before .before .before .loop-test .taken in
-    (omega (arith, taken), spread-more (at-loop (c .before .before) .loop .inv .1) taken (is-vertex (c .before .before)) (c .if1 .taken))
+loop-again c = (omega arith, spread-more (c .before .before .before .before .loop .inv .1) (omega arith) (is-vertex (c .before .before)) (c .if1 .taken))
 
 loop-less-2 : tie.Need-loop-less-2 Inv-loop μ-loop
 loop-less-2 c = search needs
 
 loop-again-2 : tie.Need-loop-again-2 Inv-loop μ-loop
-loop-again-2 c = (omega arith, spread-marked (at-loop (c .before .before) .loop .inv .1) (c .if1 .left))
+loop-again-2 c = (omega arith, spread-marked (at-loop c .loop .inv .1) (c .if1 .left))
 
 returns : tie.Need-returns Inv-loop μ-loop
 returns c = let all : c .before .loop .k ≡ length (c .before .before .args .row .now) = omega arith in

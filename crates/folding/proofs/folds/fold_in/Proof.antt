@@ -39,11 +39,11 @@ turn-requires c κs = room-ready (entry (c .before .before) .pre)
 
 write-table-requires : tie.Need-write-table-requires
 write-table-requires c κs = let pre = entry (after-rows c) .pre in
-    turned-writable (the-fold-lawful (entry (after-rows c) .args .by)) (pre .counted) (pre .kind) (after-turn c .turn .ensures) (pre .room .0) (pre .room .1)
+    turned-writable (the-fold-lawful (entry (after-rows c) .args .mode)) (pre .counted) (pre .kind) (after-turn c .turn .ensures) (pre .room .0) (pre .room .1)
 
 sub-t14 : tie.Need-sub-t14
 sub-t14 c = let pre = entry (after-rows (after-write-table c .before)) .pre in
-    folded-most (the-fold-lawful (entry (after-rows (after-write-table c .before)) .args .by)) (pre .counted) (pre .kind) (after-turn (after-write-table c .before) .turn .ensures)
+    folded-most (the-fold-lawful (entry (after-rows (after-write-table c .before)) .args .mode)) (pre .counted) (pre .kind) (after-turn (after-write-table c .before) .turn .ensures)
 
 same-length : tie.Need-same-length
 same-length c = search needs
@@ -61,7 +61,7 @@ returns : tie.Need-returns
 returns c =
     let start = entry (after-rows (after-write-table c .before)) in
     let written = after-write-table c in
-    (refl, folded-at (the-fold-lawful (start .args .by)) (start .pre .counted) (start .pre .kind) (after-turn (written .before) .turn .ensures) (written .write-table .ensures))
+    (refl, folded-at (the-fold-lawful (start .args .mode)) (start .pre .counted) (start .pre .kind) (after-turn (written .before) .turn .ensures) (written .write-table .ensures))
 
 pub fold-in-spec : {M : Type 1} → statement M
 fold-in-spec =
