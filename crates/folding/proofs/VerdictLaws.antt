@@ -1,21 +1,15 @@
--- The number of a fold: a refusal by the table, by the room or by what the way asks, or 0. For every way; and what a table without a directed cycle gives in each mode. Assumes nothing.
+-- The number of a fold: a refusal by the table, by the room or by what the way asks, or 0. For every way. Assumes nothing.
 use Prim.Native.Nat.{ℕ}
 use mathlib.Core.Path.{_≡_, refl, sym, _∙_}
 use mathlib.Core.Logic.{inl, inr}
 use mathlib.Core.List.{_∷_}
 use native.Mathlib.Omega.{arith}
 use Rattle.table.specs.Verdict.{Verdict, AllMet}
-use Rattle.table.specs.Table.{Rows, Table, edges, SoundTable}
+use Rattle.table.specs.Table.{Table, SoundTable}
 use Rattle.table.specs.Numbers.{countedDemands}
 use Rattle.table.proofs.VerdictLaws.{accepts, goes-on, stops}
 use Rattle.table.proofs.Accepted.{counted-meets}
-use Rattle.bubble.specs.Cycle.{Cyclic}
-use Rattle.rule.specs.Fold.{NoCycle, kept-shares}
-use Rattle.rule.specs.Way.{Way, asked-of, fold-with, plain, the-fold}
-use Rattle.rule.specs.declared.Mode.{Mode}
-use Rattle.rule.specs.declared.Rings.{Rings}
-use Rattle.rule.specs.declared.Rings.the-variants.{Refused, Taken}
-use Rattle.rule.proofs.WithoutCycle.{table-folded-ring}
+use Rattle.rule.specs.Way.{Way}
 use Rattle.folding.specs.declared.folds.Folded.{Folded}
 use Rattle.folding.specs.Folding.{foldRoom, foldDemands, FoldedAt, FoldDone}
 
@@ -57,26 +51,3 @@ module _ {way : Way} {table : Table} {budget : ℕ} {lent : Table} {answer : Fol
           taken = λ _. done;
           refused = λ wrong. absurd (wrong e);
         }
-
--- where rings are refused a table with a directed cycle is
-pub refused-cyclic : {rings : Rings} (rows : Rows) → rings ≡ Refused → Cyclic (edges rows) → Verdict (asked-of rings rows) 9
-refused-cyclic rows refused cycle = rw refused (inl ((λ none. none cycle), refl))
-
--- and where they are taken nothing more is asked
-pub met-taken : {rings : Rings} (rows : Rows) → rings ≡ Taken → AllMet (asked-of rings rows)
-met-taken rows taken = rw taken tt
-
--- a table without a directed cycle is folded as where rings are refused
-pub folded-without-cycle : (mode : Mode) {table lent after : Table} {budget : ℕ} {answer : Folded} → NoCycle (edges (table .rows))
-    → FoldedAt (the-fold (plain (mode .by))) table budget lent after answer → FoldedAt (the-fold mode) table budget lent after answer
-folded-without-cycle mode {table} {lent} {after} {budget} {answer} acyclic at = of (mode .rings)
-  where
-    of : (rings : Rings) → FoldedAt (fold-with rings (kept-shares (mode .by))) table budget lent after answer
-    of Refused = at
-    of Taken =
-        record { result = at .result; table-folded = table-folded-ring acyclic (at .table-folded); edge-count = at .edge-count; at-fronts = at .at-fronts }
-
--- and all that either asks is met
-pub met-without-cycle : (rings : Rings) (rows : Rows) → (Cyclic (edges rows) → ⊥) → AllMet (asked-of rings rows)
-met-without-cycle Refused rows none = (none, tt)
-met-without-cycle Taken rows none = tt

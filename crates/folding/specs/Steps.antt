@@ -5,8 +5,23 @@ use mathlib.Core.List.{List}
 use lib.ListN.{length}
 use Rattle.table.specs.Limits.{vertex-limit}
 use Rattle.table.specs.Table.{Table, edges, SoundTable}
+use Rattle.bubble.specs.Cycle.{Cyclic}
+use Rattle.rule.specs.Lists.{Graph}
 use Rattle.rule.specs.Way.{Way}
+use Rattle.rule.specs.declared.Rings.{Rings}
+use Rattle.rule.specs.declared.Rings.the-variants.{Refused, Taken}
 use Rattle.folding.specs.Folding.{foldRoom}
+
+-- what has to be done with rings to fold a graph: they have to be taken where it has a directed cycle
+abbrev pub Needed : Graph → Rings → Type 0
+Needed E Refused = Cyclic E → ⊥
+Needed E Taken = Cyclic E
+
+-- rings are needed and refused
+abbrev pub Lacks : Rings → Rings → Type 0
+Lacks Refused Refused = ⊥
+Lacks Refused Taken = Unit {0}
+Lacks Taken need = ⊥
 
 -- what is handed over: a table with its counts that the way folds, an array with room for the number of every vertex, and room for the result
 pub record FoldRoom (way : Way) (table : Table) (next : List ℕ) (lent : Table) : Type 0 where

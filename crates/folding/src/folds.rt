@@ -3,11 +3,10 @@
 ghost use mathlib.Core.Path.{_≡_};
 ghost use Rattle.table.specs.Verdict.{Says};
 ghost use Rattle.table.specs.Table.{Edge, WellFormed};
-ghost use Rattle.bubble.specs.Cycle.{Cyclic};
 ghost use Rattle.rule.specs.declared.Choosing.the-variants.{Sum, Weakest};
 ghost use Rattle.rule.specs.Way.{plain, ringed, the-fold};
 ghost use Rattle.folding.specs.Folding.{FoldDone, FoldedAt};
-ghost use Rattle.folding.specs.Steps.{FoldRoom};
+ghost use Rattle.folding.specs.Steps.{Needed, Lacks, FoldRoom};
 use rule::Choosing;
 use rule::Mode;
 use rule::Rings;
@@ -33,13 +32,29 @@ fn refused(number: u32) -> Folded
     }
 }
 
-// Whether the table has a directed cycle.
-fn cyclic(starts: &[u32], targets: &[u32]) -> bool
+// What a fold has to do with rings to fold the table: to take them where it has a directed cycle.
+fn needed(starts: &[u32], targets: &[u32]) -> Rings
     requires { ⌜ WellFormed (now starts) (now targets) ⌝ }
-    ensures { λ r. ⌜ Says r (Cyclic (Edge (now (starts .entry)) (now (targets .entry)))) ⌝ }
+    ensures { λ r. ⌜ Needed (Edge (now (starts .entry)) (now (targets .entry))) r ⌝ }
 {
     let mut colours = [0u8; VERTEX_LIMIT];
-    cycle::has_cycle(starts, targets, &mut colours)
+    if cycle::has_cycle(starts, targets, &mut colours) {
+        return Rings::Taken;
+    }
+    Rings::Refused
+}
+
+// Whether rings are needed and refused.
+fn lacks(rings: Rings, need: Rings) -> bool
+    ensures { λ r. ⌜ Says r (Lacks rings need) ⌝ }
+{
+    let Rings::Refused = rings else {
+        return false;
+    };
+    let Rings::Taken = need else {
+        return false;
+    };
+    true
 }
 
 // Folds a table, with a slice that has room for the number of every vertex.
@@ -130,31 +145,16 @@ pub fn fold_by(
     if counts2.len() < n {
         return refused(8);
     }
-    let mut next = [0u32; VERTEX_LIMIT];
-    if cyclic(starts, targets) {
-        let rings = mode.rings;
-        let Rings::Taken = rings else {
-            return refused(9);
-        };
-        return fold_in(
-            mode,
-            starts,
-            targets,
-            counts,
-            budget as usize,
-            &mut next,
-            starts2,
-            targets2,
-            counts2,
-        );
+    let rings = mode.rings;
+    let need = needed(starts, targets);
+    if lacks(rings, need) {
+        return refused(9);
     }
     let by = mode.by;
-    let plain = Mode {
-        rings: Rings::Refused,
-        by,
-    };
+    let enough = Mode { rings: need, by };
+    let mut next = [0u32; VERTEX_LIMIT];
     fold_in(
-        plain,
+        enough,
         starts,
         targets,
         counts,
