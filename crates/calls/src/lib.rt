@@ -5,7 +5,7 @@ ghost use Rattle.writing.specs.Writing.{Written};
 ghost use Rattle.listing.specs.Listing.{ListDone};
 ghost use Rattle.judging.specs.Judging.{JudgeDone};
 ghost use Rattle.rule.specs.declared.Choosing.the-variants.{Sum, Weakest};
-ghost use Rattle.rule.specs.Way.{the-fold};
+ghost use Rattle.rule.specs.Way.{plain, ringed, the-fold};
 ghost use Rattle.folding.specs.Folding.{FoldDone};
 
 // Looks at an image, and hands out its version, n and m.
@@ -176,7 +176,7 @@ pub extern "C" fn gohardim_fold(
     ensures { λ r.
         ⌜
         FoldDone
-        (the-fold Sum)
+        (the-fold (plain Sum))
         (record { rows = record { starts = now (starts .entry); targets = now (targets .entry) }; counts = now (counts .entry) })
         budget
         (record { rows = record { starts = now (starts2 .entry); targets = now (targets2 .entry) }; counts = now (counts2 .entry) })
@@ -208,7 +208,7 @@ pub extern "C" fn gohardim_fold_weakest(
     ensures { λ r.
         ⌜
         FoldDone
-        (the-fold Weakest)
+        (the-fold (plain Weakest))
         (record { rows = record { starts = now (starts .entry); targets = now (targets .entry) }; counts = now (counts .entry) })
         budget
         (record { rows = record { starts = now (starts2 .entry); targets = now (targets2 .entry) }; counts = now (counts2 .entry) })
@@ -229,4 +229,78 @@ pub extern "C" fn gohardim_fold_weakest(
     *left = by_weakest.left;
     *edges = by_weakest.edges;
     by_weakest.number
+}
+
+// Folds any well-formed table of version 1, cycles included, by a budget into a second set of slices, and hands out how many were folded, how many candidates remain and the new
+// edge count.
+#[no_mangle]
+pub extern "C" fn gohardim_fold_rings(
+    starts: &[u32],
+    targets: &[u32],
+    counts: &[u64],
+    budget: u32,
+    starts2: &mut [u32],
+    targets2: &mut [u32],
+    counts2: &mut [u64],
+    folded: &mut usize,
+    left: &mut usize,
+    edges: &mut usize,
+) -> u32
+    ensures { λ r.
+        ⌜
+        FoldDone
+        (the-fold (ringed Sum))
+        (record { rows = record { starts = now (starts .entry); targets = now (targets .entry) }; counts = now (counts .entry) })
+        budget
+        (record { rows = record { starts = now (starts2 .entry); targets = now (targets2 .entry) }; counts = now (counts2 .entry) })
+        (record { rows = record { starts = now (starts2 .exit); targets = now (targets2 .exit) }; counts = now (counts2 .exit) })
+        (record { number = r; folded = now (folded .exit); left = now (left .exit); edges = now (edges .exit) })
+        ⌝ }
+{
+    let ringed = folding::fold_rings(starts, targets, counts, budget, starts2, targets2, counts2);
+    *folded = ringed.folded;
+    *left = ringed.left;
+    *edges = ringed.edges;
+    ringed.number
+}
+
+// Folds any well-formed table of version 2, cycles included, by a budget into a second set of slices, and hands out how many were folded, how many candidates remain and the new
+// edge count.
+#[no_mangle]
+pub extern "C" fn gohardim_fold_rings_weakest(
+    starts: &[u32],
+    targets: &[u32],
+    counts: &[u64],
+    budget: u32,
+    starts2: &mut [u32],
+    targets2: &mut [u32],
+    counts2: &mut [u64],
+    folded: &mut usize,
+    left: &mut usize,
+    edges: &mut usize,
+) -> u32
+    ensures { λ r.
+        ⌜
+        FoldDone
+        (the-fold (ringed Weakest))
+        (record { rows = record { starts = now (starts .entry); targets = now (targets .entry) }; counts = now (counts .entry) })
+        budget
+        (record { rows = record { starts = now (starts2 .entry); targets = now (targets2 .entry) }; counts = now (counts2 .entry) })
+        (record { rows = record { starts = now (starts2 .exit); targets = now (targets2 .exit) }; counts = now (counts2 .exit) })
+        (record { number = r; folded = now (folded .exit); left = now (left .exit); edges = now (edges .exit) })
+        ⌝ }
+{
+    let ringed_weakest = folding::fold_rings_weakest(
+        starts,
+        targets,
+        counts,
+        budget,
+        starts2,
+        targets2,
+        counts2,
+    );
+    *folded = ringed_weakest.folded;
+    *left = ringed_weakest.left;
+    *edges = ringed_weakest.edges;
+    ringed_weakest.number
 }
