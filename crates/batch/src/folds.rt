@@ -1,4 +1,4 @@
-// The operations `f` and `g`: a table folded by the fold of version 1 and by that of version 2.
+// The operations `f` and `g`: a table folded by the fold of version 1 and by that of version 2. The operations `r` and `q`: the same by the folds that take rings.
 ghost use Prim.Native.Nat.{_*_, _≤_};
 ghost use lib.ListN.{length};
 ghost use Rattle.table.specs.Limits.{vertex-limit, edge-limit};
@@ -30,6 +30,16 @@ fn fold_slices(
 ) -> Folded {
     match operation {
         b'g' => folding::fold_weakest(starts, targets, counts, budget, starts2, targets2, counts2),
+        b'r' => folding::fold_rings(starts, targets, counts, budget, starts2, targets2, counts2),
+        b'q' => folding::fold_rings_weakest(
+            starts,
+            targets,
+            counts,
+            budget,
+            starts2,
+            targets2,
+            counts2,
+        ),
         _ => folding::fold(starts, targets, counts, budget, starts2, targets2, counts2),
     }
 }
@@ -80,6 +90,8 @@ fn put_name(out: &mut [u8; output::BUFFER], at: usize, operation: u8) -> usize
 {
     match operation {
         b'g' => output::word(out, at, b"fold_weakest"),
+        b'r' => output::word(out, at, b"fold_rings"),
+        b'q' => output::word(out, at, b"fold_rings_weakest"),
         _ => output::word(out, at, b"fold"),
     }
 }
@@ -137,7 +149,7 @@ fn fold_lent(
     output::byte(out, place, b'\n')
 }
 
-// The operations `f` and `g`: the budget, the rooms of the second set of slices, three lengths, then starts, targets and counts.
+// The operations `f`, `g`, `r` and `q`: the budget, the rooms of the second set of slices, three lengths, then starts, targets and counts.
 pub fn fold_case(
     out: &mut [u8; output::BUFFER],
     at: usize,

@@ -111,7 +111,7 @@ fn answer(
         b'd' => load_case(out, at, body),
         b'l' => list_case(out, at, body, words),
         b'j' => judge_case(out, at, body, words),
-        b'f' | b'g' => fold_case(out, at, operation, body, words, counts),
+        b'f' | b'g' | b'r' | b'q' => fold_case(out, at, operation, body, words, counts),
         _ => bad_case(out, at),
     }
 }

@@ -11,6 +11,7 @@ use Rattle.layout.specs.Image.{Contents, imageOf, versionOf, tableOf, contentsO
 use Rattle.image.specs.Contracts.{imageDemands}
 use Rattle.rule.specs.declared.Choosing.{Choosing}
 use Rattle.rule.specs.declared.Choosing.the-variants.{Sum, Weakest}
+use Rattle.rule.specs.declared.Rings.{Rings}
 use Rattle.rule.specs.Way.{Way, the-fold}
 use Rattle.rule.specs.Tables.{TableFolded}
 use Rattle.texts.specs.Text.{text, refusalLines, foldLines}
@@ -21,9 +22,9 @@ use Rattle.fold_bytes.specs.declared.Answers.{Answers}
 abbrev pub choosing-of : ℕ → Choosing
 choosing-of version = ite (ℕ-discrete version 2) Weakest Sum
 
--- the folds of docs/RULES.md, one for each version
-abbrev pub fold-of : ℕ → Way
-fold-of version = the-fold (choosing-of version)
+-- the folds of docs/RULES.md, one for each version, with rings refused or taken
+abbrev pub fold-of : Rings → ℕ → Way
+fold-of rings version = the-fold (record { rings = rings; by = choosing-of version })
 
 -- one table is the other folded by the budget: the bytes printed are the line of that fold, the bytes written the image, of the same version, of the new table with
 -- the lengths as they were
@@ -53,5 +54,5 @@ FoldAnswer ways image =
     FoldDelivered (ways (versionOf image)) (imageDemands image ++ ways (versionOf image) .asked (tableOf image .rows)) (versionOf image) (contentsOf image)
 
 -- by the folds of docs/RULES.md
-abbrev pub TheFoldAnswer : List ℕ → ℕ → List ℕ → List ℕ → List ℕ → List ℕ → Answers → Type 0
-TheFoldAnswer = FoldAnswer fold-of
+abbrev pub TheFoldAnswer : Rings → List ℕ → ℕ → List ℕ → List ℕ → List ℕ → List ℕ → Answers → Type 0
+TheFoldAnswer rings = FoldAnswer (fold-of rings)

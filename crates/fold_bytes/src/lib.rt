@@ -1,4 +1,4 @@
-// Fold, from the bytes of an image and a budget to the bytes of the line that is printed and of the image that is written.
+// Fold, with rings refused or taken, from the bytes of an image and a budget to the bytes of the line that is printed and of the image that is written.
 ghost use mathlib.Core.Path.{_≡_};
 ghost use Rattle.io.specs.Counts.{Counts};
 ghost use Rattle.layout.specs.Image.{SoundContents};
@@ -7,6 +7,8 @@ ghost use Rattle.printing.specs.Put.{AtFront};
 ghost use Rattle.fold_bytes.specs.Image.{choosing-of, fold-of, FoldDelivered, TheFoldAnswer};
 use layout::Header;
 use rule::Choosing;
+use rule::Mode;
+use rule::Rings;
 use table::EDGE_LIMIT;
 use table::START_LIMIT;
 use table::VERTEX_LIMIT;
@@ -63,6 +65,7 @@ fn choosing(version: u32) -> Choosing
 
 // Folds a table by the rule of its version into the second set of arrays, and puts the line and the image of the new table with its lengths, or the line of a refusal.
 fn fold_contents(
+    rings: Rings,
     version: u32,
     starts: &[u32],
     targets: &[u32],
@@ -86,8 +89,8 @@ fn fold_contents(
     ensures { λ r.
         ⌜
         FoldDelivered
-        (fold-of version)
-        (fold-of version .asked (record { starts = now (starts .entry); targets = now (targets .entry) }))
+        (fold-of rings version)
+        (fold-of rings version .asked (record { starts = now (starts .entry); targets = now (targets .entry) }))
         version
         (record {
           table = record { rows = record { starts = now (starts .entry); targets = now (targets .entry) }; counts = now (counts .entry) };
@@ -101,9 +104,12 @@ fn fold_contents(
         r
         ⌝ }
 {
-    let by = choosing(version);
+    let mode = Mode {
+        rings,
+        by: choosing(version),
+    };
     let folded = folding::fold_by(
-        by,
+        mode,
         starts,
         targets,
         counts,
@@ -137,6 +143,7 @@ fn fold_contents(
 
 // Puts the line and the new image of an image that is folded, or the line of its refusal, with arrays to load it into and a second set for the new table.
 fn answer_with(
+    rings: Rings,
     image: &[u8],
     budget: u32,
     starts: &mut [u32; START_LIMIT],
@@ -151,7 +158,7 @@ fn answer_with(
 ) -> Answers
     ensures { λ r.
         ⌜
-        TheFoldAnswer (now (image .entry)) budget (now (out .entry)) (now (out .exit)) (now (new .entry)) (now (new .exit)) r
+        TheFoldAnswer rings (now (image .entry)) budget (now (out .entry)) (now (out .exit)) (now (new .entry)) (now (new .exit)) r
         ⌝ }
     ensures { λ r. ⌜ Counts (r .line) (now (out .exit)) × Counts (r .image) (now (new .exit)) ⌝ }
 {
@@ -168,6 +175,7 @@ fn answer_with(
     let counts: &[u64] = counts;
     let lengths: &[u16] = lengths;
     fold_contents(
+        rings,
         version,
         &starts[..n + 1],
         &targets[..m],
@@ -184,6 +192,7 @@ fn answer_with(
 
 // Puts what fold prints and writes of an image and a budget at the fronts of the buffers: the line and the new image, or `refused N` and nothing.
 pub fn answer(
+    rings: Rings,
     image: &[u8],
     budget: u32,
     out: &mut [u8; LONGEST],
@@ -191,7 +200,7 @@ pub fn answer(
 ) -> Answers
     ensures { λ r.
         ⌜
-        TheFoldAnswer (now (image .entry)) budget (now (out .entry)) (now (out .exit)) (now (new .entry)) (now (new .exit)) r
+        TheFoldAnswer rings (now (image .entry)) budget (now (out .entry)) (now (out .exit)) (now (new .entry)) (now (new .exit)) r
         ⌝ }
     ensures { λ r. ⌜ Counts (r .line) (now (out .exit)) × Counts (r .image) (now (new .exit)) ⌝ }
 {
@@ -203,6 +212,7 @@ pub fn answer(
     let mut targets2 = [0u32; EDGE_LIMIT];
     let mut counts2 = [0u64; VERTEX_LIMIT];
     answer_with(
+        rings,
         image,
         budget,
         &mut starts,

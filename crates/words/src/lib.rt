@@ -1,6 +1,7 @@
 // The words that a program is started with.
 ghost use Prim.Native.Nat.{_+_, _-_, _*_, _≤_, min};
 ghost use mathlib.Core.Path.{_≡_};
+ghost use Rattle.table.specs.Verdict.{Says as Table·Says};
 ghost use Rattle.words.specs.Decimal.{Says};
 
 // The room that any word fits: the longest that the system hands to a program for x86-64, and one byte more.
@@ -52,8 +53,31 @@ pub fn parse(word: &[u8]) -> Numeral
     Numeral::Is(value as u32)
 }
 
+// Whether a word is a text, byte for byte.
+pub fn same(word: &[u8], text: &[u8]) -> bool
+    ensures { λ r. ⌜ Table·Says r (now (word .entry) ≡ now (text .entry)) ⌝ }
+{
+    if word.len() != text.len() {
+        return false;
+    }
+    let mut k = 0;
+    while k < word.len() {
+        if word[k] != text[k] {
+            return false;
+        }
+        k += 1;
+    }
+    true
+}
+
 // What word i says, the program's own name being word 0. It is taken into the room that is lent; a word that is longer says nothing.
 pub fn number(i: usize, room: &mut [u8]) -> Numeral {
     let count = os::arg(i, room);
     parse(&room[..count])
+}
+
+// Whether word i is a text. It is taken into the room that is lent; a word that is longer is none.
+pub fn is(i: usize, text: &[u8], room: &mut [u8]) -> bool {
+    let count = os::arg(i, room);
+    same(&room[..count], text)
 }

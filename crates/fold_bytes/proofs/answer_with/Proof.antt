@@ -11,6 +11,9 @@ use Rattle.fold_bytes.proofs.answer_with.Statement.{statement}
 use Rattle.fold_bytes.proofs.answer_with.Tie as tie
 
 -- The places that the needs look back to, each seen from a place nearer to them.
+abbrev entry : tie.After-take-in → tie.Start
+entry c = c .before .before .before .before .before .before
+
 abbrev after-take-in : tie.After-refused → tie.After-take-in
 after-take-in c = c .before .before .before .before
 
@@ -31,7 +34,7 @@ refused-requires c κs = search needs
 
 returns : tie.Need-returns
 returns c =
-    let done = image-refused fold-of (after-take-in c .take-in .ensures .0 .looked) (c .before .before .if1 .taken) (c .refused .ensures) in
+    let done = image-refused (fold-of (entry (after-take-in c) .args .rings)) (after-take-in c .take-in .ensures .0 .looked) (c .before .before .if1 .taken) (c .refused .ensures) in
     (done, (front-counts (done .line-front), front-counts (done .image-front)))
 
 lengths-requires : tie.Need-lengths-requires
@@ -76,7 +79,7 @@ returns-2 c =
     let took = start .before .before .take-in .ensures .0 in
     let same-version = took .looked .taken (start .if1 .left) .same-version in
     let same-contents = taken-same took (start .if1 .left) (after-lengths first .lengths .ensures) in
-    let done = image-folded fold-of _ (took .looked) (start .if1 .left) same-version same-contents (c .fold-contents .ensures) in
+    let done = image-folded (fold-of (entry (start .before .before) .args .rings)) _ (took .looked) (start .if1 .left) same-version same-contents (c .fold-contents .ensures) in
     (done, (front-counts (done .line-front), front-counts (done .image-front)))
 
 pub answer-with-spec : {M : Type 1} → statement M

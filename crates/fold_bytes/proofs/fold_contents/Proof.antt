@@ -42,16 +42,17 @@ room c = omega (arith, entry c .pre .counted .well-formed)
 
 -- the table is folded by the rule of its version
 folded : (c : tie.After-fold-by)
-    → FoldDone (fold-of (entry c .args .version)) (handed (entry c)) (entry c .args .budget) (lent (entry c)) (filled c) (c .fold-by .result)
+    → FoldDone (fold-of (entry c .args .rings) (entry c .args .version)) (handed (entry c)) (entry c .args .budget) (lent (entry c)) (filled c) (c .fold-by .result)
 folded c = rw (c .before .before .before .before .choosing .ensures) at (c .fold-by .ensures)
 
 -- the new table stands at the fronts of the second set
 left : (c : tie.Else1)
     → let done = c .before .before in
-    LeftTable (fold-of (entry done .args .version)) (handed (entry done)) (entry done .args .budget) (filled done) (done .fold-by .result)
+    LeftTable (fold-of (entry done .args .rings) (entry done .args .version)) (handed (entry done)) (entry done .args .budget) (filled done) (done .fold-by .result)
 left c =
     let done = c .before .before in
-    fold-leaves {after = filled done} (the-fold-lawful (choosing-of (entry done .args .version))) (entry done .pre .counted) (room done) (folded done) (c .if1 .left)
+    fold-leaves {after = filled done} (the-fold-lawful (record { rings = entry done .args .rings; by = choosing-of (entry done .args .version) })) (entry done .pre .counted)
+    (room done) (folded done) (c .if1 .left)
 
 choosing-requires : tie.Need-choosing-requires
 choosing-requires c κs = search needs
