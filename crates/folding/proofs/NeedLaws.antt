@@ -3,17 +3,21 @@ use Prim.Native.Nat.{ℕ}
 use mathlib.Core.Path.{_≡_, refl}
 use mathlib.Core.Logic.{inl}
 use mathlib.Core.Bool.{Bool, false}
+use mathlib.Core.List.{[], _∷_, _++_}
 use Rattle.table.specs.Verdict.{Verdict, AllMet, Says}
 use Rattle.table.specs.Table.{Rows, Table, edges}
+use Rattle.table.specs.Numbers.{countedDemands}
+use Rattle.table.proofs.VerdictLaws.{met-is-passed}
+use Rattle.bubble.specs.Cycle.{Cyclic}
 use Rattle.rule.specs.Fold.{Rule}
 use Rattle.rule.specs.Lists.{Graph}
-use Rattle.rule.specs.Way.{kind-of, asked-of, fold-with}
+use Rattle.rule.specs.Way.{kind-of, noCycle, asked-of, fold-with}
 use Rattle.rule.specs.declared.Rings.{Rings}
 use Rattle.rule.specs.declared.Rings.the-variants.{Refused, Taken}
 use Rattle.rule.proofs.TheFold.{acyclic-folds}
 use Rattle.rule.proofs.WithoutCycle.{table-folded-ring}
 use Rattle.folding.specs.declared.folds.Folded.{Folded}
-use Rattle.folding.specs.Folding.{FoldedAt}
+use Rattle.folding.specs.Folding.{foldRoom, FoldedAt, FoldDone}
 use Rattle.folding.specs.Steps.{Needed, Lacks}
 
 -- nothing is lacking where none are needed
@@ -49,3 +53,13 @@ folded-by-need Refused Taken cycle enough at = absurd (enough tt)
 folded-by-need Taken Refused none enough at =
     record { result = at .result; table-folded = table-folded-ring (acyclic-folds none) (at .table-folded); edge-count = at .edge-count; at-fronts = at .at-fronts }
 folded-by-need Taken Taken cycle enough at = at
+
+-- what a fold states of a table without a directed cycle where rings are refused holds where they are taken
+pub done-without-cycle : {R : Rule} {table lent after : Table} {budget : ℕ} {answer : Folded} → (Cyclic (edges (table .rows)) → ⊥)
+    → FoldDone (fold-with Refused R) table budget lent after answer → FoldDone (fold-with Taken R) table budget lent after answer
+done-without-cycle {table = table} {lent = lent} {answer = answer} none done =
+    record {
+      verdict = met-is-passed (countedDemands table ++ foldRoom table lent ∷ []) (noCycle (table .rows)) [] (answer .number) none (done .verdict);
+      taken = λ e. folded-by-need Taken Refused none (λ never. never) (done .taken e);
+      refused = done .refused;
+    }

@@ -29,6 +29,7 @@ use Rattle.walking.proofs.Determined.{walk-determined}
 use Rattle.search.specs.declared.Exit.{Exit}
 use Rattle.search.specs.Search.{Visited, Sought}
 use Rattle.search.proofs.AnswerLaws.{shown, answer-unique}
+use Rattle.bubble.specs.Superbubble.{Reaches}
 use Rattle.bubble.specs.Cycle.{Cyclic}
 use Rattle.visiting.specs.Visits.{Followed, Visitable, VisitAnswer}
 use Rattle.visiting.proofs.AnswerLaws.{visit-answer-unique}
@@ -53,10 +54,13 @@ use Rattle.turns.proofs.Determined.{turn-determined}
 use Rattle.staying.specs.Staying.{TableWritten}
 use Rattle.staying.proofs.Determined.{write-table-determined}
 use Rattle.rule.specs.declared.Choosing.{Choosing}
-use Rattle.rule.specs.Fold.{Candidate, kept-shares}
-use Rattle.rule.specs.Way.{the-fold}
-use Rattle.rule.proofs.Candidates.{candidate-laws}
-use Rattle.rule.proofs.TheFold.{the-fold-lawful}
+use Rattle.rule.specs.declared.Mode.{Mode}
+use Rattle.rule.specs.declared.Rings.{Rings}
+use Rattle.rule.specs.Fold.{kept-shares}
+use Rattle.rule.specs.Way.{candidates-of, the-fold}
+use Rattle.rule.proofs.TheFold.{candidates-lawful, the-fold-lawful}
+use Rattle.skipping.specs.Skipping.{Admitted}
+use Rattle.skipping.proofs.SkipLaws.{admitted-determined}
 use Rattle.folding.specs.declared.folds.Folded.{Folded}
 use Rattle.folding.specs.Folding.{FoldDone}
 use Rattle.folding.proofs.Demand.{fold-determined}
@@ -180,11 +184,19 @@ list-coincides = list-determined
 pub judge-coincides : {rows : Rows} {s t : ℕ} {answer₁ answer₂ : Judgement} → JudgeDone rows s t answer₁ → JudgeDone rows s t answer₂ → answer₁ ≡ answer₂
 judge-coincides = judge-determined
 
+-- `reaching::reaches`
+pub reaches-coincides : (rows : Rows) (from to : ℕ) (r₁ r₂ : Bool) → Says r₁ (Reaches (edges rows) from to) → Says r₂ (Reaches (edges rows) from to) → r₁ ≡ r₂
+reaches-coincides rows from to = says-unique (Reaches (edges rows) from to)
+
+-- `skipping::admit`
+pub admit-coincides : {rows : Rows} {s : ℕ} {rings : Rings} {exit r₁ r₂ : Exit} → Admitted (edges rows) s rings exit r₁ → Admitted (edges rows) s rings exit r₂ → r₁ ≡ r₂
+admit-coincides = admitted-determined
+
 -- `candidates::find`: all but the order
-pub find-coincides : {rows : Rows} {parents₁ pending₁ order₁ exits₁ parents₂ pending₂ order₂ exits₂ : List ℕ} {found₁ found₂ : ℕ}
-    → FindDone Candidate rows parents₁ pending₁ order₁ exits₁ found₁ → FindDone Candidate rows parents₂ pending₂ order₂ exits₂ found₂
+pub find-coincides : (rings : Rings) {rows : Rows} {parents₁ pending₁ order₁ exits₁ parents₂ pending₂ order₂ exits₂ : List ℕ} {found₁ found₂ : ℕ}
+    → FindDone (candidates-of rings) rows parents₁ pending₁ order₁ exits₁ found₁ → FindDone (candidates-of rings) rows parents₂ pending₂ order₂ exits₂ found₂
     → (parents₁ ≡ parents₂) × (pending₁ ≡ pending₂) × (exits₁ ≡ exits₂) × (found₁ ≡ found₂)
-find-coincides = found-determined candidate-laws
+find-coincides rings = found-determined (candidates-lawful rings)
 
 -- `children::choose`
 pub choose-coincides : {by : Choosing} {row counts best : List ℕ} {t end : ℕ} {choice₁ choice₂ : Choice}
@@ -197,25 +209,25 @@ pub share-coincides : {counts next out out₁ out₂ : List ℕ} {s k d : ℕ} �
 share-coincides = shared-determined
 
 -- `kept::keep`, whatever stood in the best sums: all but these
-pub keep-coincides : (by : Choosing) {table : Table} {best best′ next out best₁ next₁ out₁ best₂ next₂ out₂ : List ℕ} {s t : ℕ}
-    → KeptDone Candidate (kept-shares by) table s t best next out best₁ next₁ out₁ → KeptDone Candidate (kept-shares by) table s t best′ next out best₂ next₂ out₂
-    → (next₁ ≡ next₂) × (out₁ ≡ out₂)
-keep-coincides by = kept-coincide (the-fold-lawful by .candidates-lawful) (the-fold-lawful by .rule-lawful)
+pub keep-coincides : (mode : Mode) {table : Table} {best best′ next out best₁ next₁ out₁ best₂ next₂ out₂ : List ℕ} {s t : ℕ}
+    → KeptDone (candidates-of (mode .rings)) (kept-shares (mode .by)) table s t best next out best₁ next₁ out₁
+    → KeptDone (candidates-of (mode .rings)) (kept-shares (mode .by)) table s t best′ next out best₂ next₂ out₂ → (next₁ ≡ next₂) × (out₁ ≡ out₂)
+keep-coincides mode = kept-coincide (the-fold-lawful mode .candidates-lawful) (the-fold-lawful mode .rule-lawful)
 
 -- `turns::turn`: all but the number of a dropped vertex, of which it is stated that it says so
-pub turn-coincides : (by : Choosing) {table : Table} {budget : ℕ} {next₁ out₁ next₂ out₂ : List ℕ} {answer₁ answer₂ : Turned}
-    → TurnDone (the-fold by) table budget next₁ out₁ answer₁ → TurnDone (the-fold by) table budget next₂ out₂ answer₂ → (answer₁ ≡ answer₂) × (out₁ ≡ out₂)
-turn-coincides by = turn-determined (the-fold-lawful by)
+pub turn-coincides : (mode : Mode) {table : Table} {budget : ℕ} {next₁ out₁ next₂ out₂ : List ℕ} {answer₁ answer₂ : Turned}
+    → TurnDone (the-fold mode) table budget next₁ out₁ answer₁ → TurnDone (the-fold mode) table budget next₂ out₂ answer₂ → (answer₁ ≡ answer₂) × (out₁ ≡ out₂)
+turn-coincides mode = turn-determined (the-fold-lawful mode)
 
 -- `staying::write_table`
 pub write-table-coincides : {rows lent after₁ after₂ : Rows} {next : List ℕ} {r₁ r₂ : ℕ} → TableWritten rows next lent after₁ r₁ → TableWritten rows next lent after₂ r₂
     → (after₁ ≡ after₂) × (r₁ ≡ r₂)
 write-table-coincides = write-table-determined
 
--- `folding::fold` and `fold_weakest`, and `fold_by` below them
-pub fold-coincides : (by : Choosing) {table lent after₁ after₂ : Table} {budget : ℕ} {answer₁ answer₂ : Folded}
-    → FoldDone (the-fold by) table budget lent after₁ answer₁ → FoldDone (the-fold by) table budget lent after₂ answer₂ → (answer₁ ≡ answer₂) × (after₁ ≡ after₂)
-fold-coincides by = fold-determined (the-fold-lawful by)
+-- `folding::fold`, `fold_weakest`, `fold_rings` and `fold_rings_weakest`, and `fold_by` below them
+pub fold-coincides : (mode : Mode) {table lent after₁ after₂ : Table} {budget : ℕ} {answer₁ answer₂ : Folded}
+    → FoldDone (the-fold mode) table budget lent after₁ answer₁ → FoldDone (the-fold mode) table budget lent after₂ answer₂ → (answer₁ ≡ answer₂) × (after₁ ≡ after₂)
+fold-coincides mode = fold-determined (the-fold-lawful mode)
 
 -- `printing::word`, `number`, `next_number` and `end_line`
 pub bytes-put-coincide : {before bytes after₁ after₂ : List ℕ} {at end₁ end₂ : ℕ} → Put before at bytes after₁ end₁ → Put before at bytes after₂ end₂
@@ -264,7 +276,7 @@ judge-answers-coincide image =
     a .spelled ∙ (λ i. text (judgementLines (answers i) (sizes i))) ∙ sym (b .spelled))
 
 -- `fold_bytes::answer`
-pub fold-answers-coincide : (image : List ℕ) {out out₁ out₂ new new₁ new₂ : List ℕ} {budget : ℕ} {answers₁ answers₂ : Answers}
-    → FoldAnswer fold-of image budget out out₁ new new₁ answers₁ → FoldAnswer fold-of image budget out out₂ new new₂ answers₂
+pub fold-answers-coincide : (rings : Rings) (image : List ℕ) {out out₁ out₂ new new₁ new₂ : List ℕ} {budget : ℕ} {answers₁ answers₂ : Answers}
+    → FoldAnswer (fold-of rings) image budget out out₁ new new₁ answers₁ → FoldAnswer (fold-of rings) image budget out out₂ new new₂ answers₂
     → (answers₁ ≡ answers₂) × (out₁ ≡ out₂) × (new₁ ≡ new₂)
-fold-answers-coincide = answers-determined fold-of-lawful
+fold-answers-coincide rings = answers-determined (fold-of-lawful rings)

@@ -18,6 +18,9 @@ use Rattle.writing.specs.Writing.{oneEach, contentsDemands}
 use Rattle.bubble.proofs.Reflect.{decided, decides-test}
 use Rattle.bubble.proofs.Closure.{decides-closure}
 use Rattle.bubble.proofs.Walks.{walk-first}
+use Rattle.rule.specs.Way.{asked-of}
+use Rattle.rule.specs.declared.Rings.{Rings}
+use Rattle.rule.specs.declared.Rings.the-variants.{Refused, Taken}
 use Rattle.rule.proofs.CandidatesListed.{some-decided}
 use Rattle.bubble.specs.Cycle.{Anywhere, Cyclic}
 use Rattle.bubble.specs.Superbubble.{Walk}
@@ -178,6 +181,7 @@ room-decided n m lent =
 pub contents-room-decided : (version n m : ℕ) (lent : Contents) → Dec (contentsRoom version n m lent .met)
 contents-room-decided version n m lent = both (room-decided n m (lent .table)) (decLe (lengthCount version n) (length (lent .lengths)))
 
--- and 9
-pub acyclic-decided : (rows : Rows) → Sound rows → Dec (Cyclic (edges rows) → ⊥)
-acyclic-decided rows ok = not-decided (cycle-decided rows ok)
+-- and 9, where rings are refused
+pub rings-decided : (rings : Rings) (rows : Rows) → Sound rows → DecidedInTurn (asked-of rings rows)
+rings-decided Refused rows ok = (not-decided (cycle-decided rows ok), λ _. tt)
+rings-decided Taken rows ok = tt

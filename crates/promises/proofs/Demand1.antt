@@ -25,8 +25,9 @@ use Rattle.listing.specs.declared.Found.{Found}
 use Rattle.listing.specs.Listing.{listRoom, ListDone}
 use Rattle.judging.specs.declared.Judgement.{Judgement}
 use Rattle.judging.specs.Judging.{pairInside, JudgeDone}
-use Rattle.rule.specs.Way.{noCycle, the-fold}
+use Rattle.rule.specs.Way.{noCycle, asked-of, plain, the-fold}
 use Rattle.rule.specs.declared.Choosing.{Choosing}
+use Rattle.rule.specs.declared.Mode.{Mode}
 use Rattle.folding.specs.declared.folds.Folded.{Folded}
 use Rattle.folding.specs.Folding.{foldRoom, foldDemands, FoldDone}
 use Rattle.promises.specs.Images.{GoodImage}
@@ -41,7 +42,7 @@ use Rattle.promises.proofs.Decided.{
   image-decided,
   room-decided,
   contents-room-decided,
-  acyclic-decided,
+  rings-decided,
 }
 use Rattle.promises.proofs.GoodImages.{met-good}
 
@@ -67,14 +68,14 @@ judge-answers rows s t =
     gives-number (tableDemands rows ++ pairInside rows s t ∷ [])
     (decided-then (tableDemands rows) (pairInside rows s t ∷ []) (table-decided rows) (λ _. (both (decLt s (size rows)) (decLt t (size rows)), λ _. tt)))
 
--- fold,
-pub fold-answers : (by : Choosing) (table lent : Table) → (number : ℕ) × Verdict (foldDemands (the-fold by) table lent) number
-fold-answers by table lent =
-    gives-number (foldDemands (the-fold by) table lent)
-    (decided-then (countedDemands table) (foldRoom table lent ∷ noCycle (table .rows) ∷ []) (counted-decided table)
+-- each fold,
+pub fold-answers : (mode : Mode) (table lent : Table) → (number : ℕ) × Verdict (foldDemands (the-fold mode) table lent) number
+fold-answers mode table lent =
+    gives-number (foldDemands (the-fold mode) table lent)
+    (decided-then (countedDemands table) (foldRoom table lent ∷ asked-of (mode .rings) (table .rows)) (counted-decided table)
     (λ met. (
       room-decided (size (table .rows)) (length (table .rows .targets)) lent,
-      λ _. (acyclic-decided (table .rows) (met-counted table met .well-formed), λ _. tt),
+      λ _. rings-decided (mode .rings) (table .rows) (met-counted table met .well-formed),
     )))
 
 -- and the writing of an image, of either version.
@@ -121,19 +122,19 @@ pub judge-refuses-bad : {rows : Rows} {s t : ℕ} {answer : Judgement} → (Soun
 judge-refuses-bad {rows} {s} {t} {answer} bad done =
     still-refused (tableDemands rows) (pairInside rows s t ∷ []) (answer .number) (λ r. bad-table-refused rows r bad) (check-answers rows) (done .verdict)
 
--- fold,
-pub fold-refuses-bad : (by : Choosing) {table lent after : Table} {budget : ℕ} {answer : Folded} → (SoundTable table → ⊥) → FoldDone (the-fold by) table budget lent after answer
-    → answer .number ≡ 0 → ⊥
-fold-refuses-bad by {table} {lent} {answer = answer} bad done =
-    still-refused (countedDemands table) (foldRoom table lent ∷ noCycle (table .rows) ∷ []) (answer .number)
+-- each fold,
+pub fold-refuses-bad : (mode : Mode) {table lent after : Table} {budget : ℕ} {answer : Folded} → (SoundTable table → ⊥)
+    → FoldDone (the-fold mode) table budget lent after answer → answer .number ≡ 0 → ⊥
+fold-refuses-bad mode {table} {lent} {answer = answer} bad done =
+    still-refused (countedDemands table) (foldRoom table lent ∷ asked-of (mode .rings) (table .rows)) (answer .number)
     (λ r. bad-counts-refused table r bad) (check-counted-answers table) (done .verdict)
 
--- which refuses a table with a directed cycle, too: by 9, where there is room,
+-- which, where rings are refused, refuses a table with a directed cycle, too: by 9, where there is room,
 pub fold-refuses-cycle : (by : Choosing) {table lent after : Table} {budget : ℕ} {answer : Folded} → SoundTable table
     → foldRoom table lent .met → Cyclic (edges (table .rows))
-    → FoldDone (the-fold by) table budget lent after answer → answer .number ≡ 9
+    → FoldDone (the-fold (plain by)) table budget lent after answer → answer .number ≡ 9
 fold-refuses-cycle by {table} {lent} {answer = answer} ok room cycle done =
-    verdict-unique (foldDemands (the-fold by) table lent) (answer .number) 9 (done .verdict)
+    verdict-unique (foldDemands (the-fold (plain by)) table lent) (answer .number) 9 (done .verdict)
     (goes-on (countedDemands table) (foldRoom table lent ∷ noCycle (table .rows) ∷ []) 9 (counted-meets table ok)
     (inr (room, inl ((λ none. none cycle), refl))))
 
@@ -159,10 +160,10 @@ list-refusal done refusal = let (found, same) = done .refused refusal in (same, 
 pub judge-refusal : {rows : Rows} {s t : ℕ} {answer : Judgement} → JudgeDone rows s t answer → (answer .number ≡ 0 → ⊥) → (answer .yes ≡ false) × (answer .size ≡ 0)
 judge-refusal done = done .refused
 
--- fold,
-pub fold-refusal : (by : Choosing) {table lent after : Table} {budget : ℕ} {answer : Folded} → FoldDone (the-fold by) table budget lent after answer → (answer .number ≡ 0 → ⊥)
+-- each fold,
+pub fold-refusal : (mode : Mode) {table lent after : Table} {budget : ℕ} {answer : Folded} → FoldDone (the-fold mode) table budget lent after answer → (answer .number ≡ 0 → ⊥)
     → (after ≡ lent) × ((answer .folded ≡ 0) × (answer .left ≡ 0) × (answer .edges ≡ 0))
-fold-refusal by done refusal = let (folded, left, edges, same) = done .refused refusal in (same, (folded, left, edges))
+fold-refusal mode done refusal = let (folded, left, edges, same) = done .refused refusal in (same, (folded, left, edges))
 
 -- look, which is lent nothing that it could change,
 pub look-refusal : {image : List ℕ} {answer : Sizes} → Looked image answer → (answer .number ≡ 0 → ⊥) → NoSizes answer

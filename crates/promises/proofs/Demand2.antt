@@ -5,7 +5,7 @@ use mathlib.Core.Path.{_≡_, refl, sym, ap, _∙_}
 use mathlib.Core.Logic.{_↔_, inr}
 use mathlib.Core.List.{List, [], _∷_, _++_}
 use lib.ListN.{length, getD, drop, length-map}
-use Rattle.table.specs.Table.{Rows, Table, size, edges, Sound}
+use Rattle.table.specs.Table.{Rows, Table, size, edges, Sound, SoundTable}
 use Rattle.table.specs.Verdict.{AllMet}
 use Rattle.table.specs.Numbers.{tableDemands}
 use Rattle.table.specs.Lent.{AtFronts}
@@ -22,10 +22,10 @@ use Rattle.listing.proofs.SoundList.{sound-accepted, front-is-list, front-liste
 use Rattle.promises.proofs.TwelveGraphs.{twelve-graphs}
 use Rattle.judging.specs.declared.Judgement.{Judgement}
 use Rattle.judging.specs.Judging.{pairInside, Judged, JudgeDone}
-use Rattle.rule.specs.Fold.{NoCycle, Candidate, Item, kept-shares}
+use Rattle.rule.specs.Fold.{NoCycle, Item, kept-shares}
 use Rattle.rule.specs.Tables.{TableFolded}
-use Rattle.rule.specs.Way.{the-fold}
-use Rattle.rule.specs.declared.Choosing.{Choosing}
+use Rattle.rule.specs.Way.{kind-of, candidates-of, the-fold}
+use Rattle.rule.specs.declared.Mode.{Mode}
 use Rattle.rule.proofs.Ends.{budget-zero}
 use Rattle.rule.proofs.SameTable.{same-tables}
 use Rattle.rule.proofs.TheFold.{acyclic-folds, the-fold-lawful}
@@ -86,34 +86,35 @@ judged {rows} {s} {t} {answer} ok entrance exit done =
     (goes-on (tableDemands rows) (pairInside rows s t ∷ []) 0 (asked-of-rows ok) (inr ((entrance, exit), refl))) in
     (accepted, done .taken accepted)
 
--- a table without a directed cycle is of the kind that is folded
+-- a table without a directed cycle is of the kind that is folded where rings are refused
 pub foldable-kind : {table : Table} → Foldable table → NoCycle (edges (table .rows))
 foldable-kind ok = acyclic-folds (ok .acyclic)
 
-module _ (by : Choosing) {table table′ : Table} {budget : ℕ} (ok : Foldable table) (call : FoldCall (the-fold by) table budget table′) where
-  -- A well-formed table without a directed cycle, with room for the result, is folded by the call of either version:
+module _ (mode : Mode) {table table′ : Table} {budget : ℕ} (ok : SoundTable table) (kind : kind-of (mode .rings) (edges (table .rows)))
+    (call : FoldCall (the-fold mode) table budget table′) where
+  -- A well-formed table, where rings are refused one without a directed cycle, with room for the result, is folded by the call of either version:
   pub fold-accepted : call .answer .number ≡ 0
-  fold-accepted = call-accepted (the-fold-lawful by) (ok .sound) (foldable-kind ok) call
+  fold-accepted = call-accepted (the-fold-lawful mode) ok kind call
 
   -- the table and counts at the fronts of the slices are those of the rule,
-  pub fold-by-rule : TableFolded Candidate (kept-shares by) table budget table′ (call .answer .folded) (call .answer .left)
-  fold-by-rule = call-by-rule (the-fold-lawful by) (ok .sound) (foldable-kind ok) call
+  pub fold-by-rule : TableFolded (candidates-of (mode .rings)) (kept-shares (mode .by)) table budget table′ (call .answer .folded) (call .answer .left)
+  fold-by-rule = call-by-rule (the-fold-lawful mode) ok kind call
 
   -- with as many edges as are returned,
   pub fold-edges : call .answer .edges ≡ length (table′ .rows .targets)
-  fold-edges = call-edges (the-fold-lawful by) (ok .sound) (foldable-kind ok) call
+  fold-edges = call-edges (the-fold-lawful mode) ok kind call
 
   -- and what stands behind them is as it was.
   pub fold-rest : AtFronts (size (table .rows)) (call .answer .edges) table′ (call .lent) (call .after)
-  fold-rest = call-rest (the-fold-lawful by) (ok .sound) (foldable-kind ok) call
+  fold-rest = call-rest (the-fold-lawful mode) ok kind call
 
 -- Budget 0 gives back the input.
-pub fold-by-zero : (by : Choosing) {table table′ : Table} → Foldable table → (call : FoldCall (the-fold by) table 0 table′)
+pub fold-by-zero : (mode : Mode) {table table′ : Table} → SoundTable table → kind-of (mode .rings) (edges (table .rows)) → (call : FoldCall (the-fold mode) table 0 table′)
     → (table′ ≡ table) × (call .answer .folded ≡ 0)
-fold-by-zero by ok call =
-    let folded = fold-by-rule by ok call in
+fold-by-zero mode ok kind call =
+    let folded = fold-by-rule mode ok kind call in
     let size-stays = folded .same-size in
     let items = folded .graph-folded .applied .items in (
-      same-tables (size-stays .well-formed) (ok .sound .well-formed) (size-stays .as-many-vertices) (size-stays .as-many-counts) (budget-zero (folded .graph-folded .applied)),
+      same-tables (size-stays .well-formed) (ok .well-formed) (size-stays .as-many-vertices) (size-stays .as-many-counts) (budget-zero (folded .graph-folded .applied)),
       folded .graph-folded .how-many ∙ sym (length-map items (λ (i : Item). i .entrance)) ∙ ap length (folded .graph-folded .applied .first),
     )

@@ -12,6 +12,7 @@ use Rattle.rule.specs.Fold.{Rule, Candidate, kept-shares, Entrance, budgets-sum
 use Rattle.rule.specs.Way.{fold-with}
 use Rattle.rule.specs.Laws.{RuleLaws}
 use Rattle.rule.specs.declared.Choosing.{Choosing}
+use Rattle.rule.specs.declared.Rings.the-variants.{Refused}
 use Rattle.rule.proofs.BestLaws.{kept-shares-laws}
 use Rattle.rule.proofs.CandidatesListed.{candidates-listed}
 use Rattle.rule.proofs.TableDemand.{no-interior-left}
@@ -23,27 +24,27 @@ use Rattle.promises.proofs.Demand2.{foldable-kind}
 
 -- The outermost superbubbles with an interior in the first table can be listed, so that they have a number.
 pub first-candidates : {table : Table} → Foldable table → (candidates : List ℕ) × Listing (Entrance Candidate (edges (table .rows))) candidates
-first-candidates {table} ok = candidates-listed (edge-decided (table .rows)) (edges-below (ok .sound .well-formed))
+first-candidates {table} ok = candidates-listed (edge-decided (table .rows)) (edges-below (ok .sound .well-formed)) Refused
 
--- Both versions' rules are such, by their scores alone (`ScoreLaws`): `the-fold by` is `fold-with (kept-shares by)`.
+-- Both versions' rules are such, by their scores alone (`ScoreLaws`).
 pub both-lawful : (by : Choosing) → RuleLaws (kept-shares by)
 both-lawful = kept-shares-laws
 
-module _ {R : Rule} (lawful : RuleLaws R) {table table′ : Table} {budgets : List ℕ} (ok : Foldable table) (calls : CallsInTurn (fold-with R) table budgets table′) where
+module _ {R : Rule} (lawful : RuleLaws R) {table table′ : Table} {budgets : List ℕ} (ok : Foldable table) (calls : CallsInTurn (fold-with Refused R) table budgets table′) where
   -- Folding by them in turn, each on the table the last one left, ends in the same table and counts as one fold with the sum.
-  pub in-turn-as-one : {table″ : Table} → FoldCall (fold-with R) table (budgets-sum budgets) table″ → table′ ≡ table″
-  in-turn-as-one = calls-as-one (fold-with-lawful lawful) (ok .sound) (foldable-kind ok) calls
+  pub in-turn-as-one : {table″ : Table} → FoldCall (fold-with Refused R) table (budgets-sum budgets) table″ → table′ ≡ table″
+  in-turn-as-one = calls-as-one (fold-with-lawful Refused lawful) (ok .sound) (foldable-kind ok) calls
 
   -- The total of the counts never moves.
   pub total-never-moves : countSum (table′ .counts) ≡ countSum (table .counts)
-  total-never-moves = total-stays (fold-with-lawful lawful) (ok .sound) (foldable-kind ok) calls
+  total-never-moves = total-stays (fold-with-lawful Refused lawful) (ok .sound) (foldable-kind ok) calls
 
   -- Once the budgets reach the number of outermost superbubbles with an interior in the first table,
   module _ {candidates : List ℕ} (listed : Listing (Entrance Candidate (edges (table .rows))) candidates) (reached : length candidates ≤ budgets-sum budgets) where
     -- no superbubble with an interior is left,
     pub no-interior : (s t : ℕ) → Superbubble (edges (table′ .rows)) s t → (v : ℕ) → Interior (edges (table′ .rows)) s t v → ⊥
-    no-interior = no-interior-left lawful (ok .sound) (foldable-kind ok) (turns (fold-with-lawful lawful) (ok .sound) (foldable-kind ok) calls) listed reached
+    no-interior = no-interior-left lawful (ok .sound) (foldable-kind ok) (turns (fold-with-lawful Refused lawful) (ok .sound) (foldable-kind ok) calls) listed reached
 
     -- and a further fold gives back its input.
-    pub further-fold : {budget : ℕ} {table″ : Table} → FoldCall (fold-with R) table′ budget table″ → table″ ≡ table′
-    further-fold = further-call (fold-with-lawful lawful) (ok .sound) (foldable-kind ok) calls listed reached
+    pub further-fold : {budget : ℕ} {table″ : Table} → FoldCall (fold-with Refused R) table′ budget table″ → table″ ≡ table′
+    further-fold = further-call (fold-with-lawful Refused lawful) (ok .sound) (foldable-kind ok) calls listed reached

@@ -6,6 +6,7 @@ pub mod Demand3
 pub mod Shared
 pub mod SharedArm
 pub mod Versions
+pub mod Rings
 pub mod Printed
 pub mod Runs
 pub mod Coincide

@@ -22,7 +22,10 @@ use Rattle.listing.proofs.Determined.{superbubbles-determined}
 use Rattle.judging.specs.declared.Judgement.{Judgement}
 use Rattle.judging.specs.Judging.{pairInside, JudgeDone}
 use Rattle.judging.proofs.Determined.{judged-determined}
-use Rattle.rule.specs.Fold.{Candidate, kept-shares}
+use Rattle.rule.specs.Fold.{kept-shares}
+use Rattle.rule.specs.Way.{candidates-of}
+use Rattle.rule.specs.declared.Rings.{Rings}
+use Rattle.rule.specs.declared.Rings.the-variants.{Refused, Taken}
 use Rattle.rule.specs.Tables.{TableFolded}
 use Rattle.texts.specs.Text.{line, text, each, refusalLines, sizesLine, lookLines, vertexLine, contentsLines, listLines, judgementLines, foldLines}
 use Rattle.texts.proofs.FirstWord.{refusal-no-look, refusal-no-contents, refusal-no-list, refusal-no-judgement, refusal-no-fold}
@@ -39,7 +42,7 @@ use Rattle.fold_bytes.specs.Image.{choosing-of, fold-of, FoldBytes, FoldAnswer}
 use Rattle.promises.specs.Images.{GoodImage}
 use Rattle.promises.specs.Lines.{lines}
 use Rattle.promises.specs.Calls.{FoldCall}
-use Rattle.promises.proofs.Decided.{gives-number, decided-then, both, image-decided, acyclic-decided}
+use Rattle.promises.proofs.Decided.{gives-number, decided-then, both, image-decided, rings-decided}
 use Rattle.promises.proofs.GoodImages.{passed-sound, passed-contents, rest-passed, good-decides, same-bytes, passed-exactly}
 use Rattle.promises.proofs.AnyRun.{writes-version, writes-lengths, prints-as-called, writes-as-called}
 use Rattle.promises.proofs.Demand2.{listed, judged}
@@ -115,33 +118,34 @@ judge-prints image {s} {t} done e call =
     let (yes-same, size-same) = judged-determined (at .judged) (judged (passed-sound image asked passed .well-formed) (inside .0) (inside .1) call .1) in
     right-text done ∙ at .spelled ∙ (λ i. text (judgementLines (yes-same i) (size-same i)))
 
-module _ (image : List ℕ) {out out′ new new′ : List ℕ} {budget : ℕ} {answers : Answers} (done : FoldAnswer fold-of image budget out out′ new new′ answers) where
+module _ (rings : Rings) (image : List ℕ) {out out′ new new′ : List ℕ} {budget : ℕ} {answers : Answers}
+    (done : FoldAnswer (fold-of rings) image budget out out′ new new′ answers) where
   -- and fold writes the image of the table that the rule of its version gives, of that version and with the lengths as they were, and prints how many it folded and left
   -- and how many edges that table has.
   pub fold-delivers : answers .number ≡ 0
       → (table′ : Table) × (folded : ℕ) × (left : ℕ)
-      × TableFolded Candidate (kept-shares (choosing-of (versionOf image))) (tableOf image) budget table′ folded left
+      × TableFolded (candidates-of rings) (kept-shares (choosing-of (versionOf image))) (tableOf image) budget table′ folded left
       × (take (answers .image) new′ ≡ imageOf (versionOf image) (record { table = table′; lengths = lengthsOf image }))
       × (take (answers .line) out′ ≡ text (foldLines folded left (length (table′ .rows .targets))))
   fold-delivers e =
       let at = done .taken e in
       (at .result, at .folded, at .left, at .table-folded, front-bytes (done .image-front) ∙ at .image, front-bytes (done .line-front) ∙ at .spelled)
 
-  module _ (e : answers .number ≡ 0) {table′ : Table} (call : FoldCall (fold-of (versionOf image)) (tableOf image) budget table′) where
+  module _ (e : answers .number ≡ 0) {table′ : Table} (call : FoldCall (fold-of rings (versionOf image)) (tableOf image) budget table′) where
     -- It prints the numbers that a call of fold returns,
     pub fold-prints : take (answers .line) out′ ≡ text (foldLines (call .answer .folded) (call .answer .left) (call .answer .edges))
-    fold-prints = prints-as-called fold-of-lawful image done e call
+    fold-prints = prints-as-called (fold-of-lawful rings) image done e call
 
     -- and writes the image of the table that this call leaves.
     pub fold-writes : take (answers .image) new′ ≡ imageOf (versionOf image) (record { table = table′; lengths = lengthsOf image })
-    fold-writes = writes-as-called fold-of-lawful image done e call
+    fold-writes = writes-as-called (fold-of-lawful rings) image done e call
 
   -- What stands in that image has the version and the lengths of the one that was read.
   pub fold-keeps-version : answers .number ≡ 0 → Below 256 image → versionOf (take (answers .image) new′) ≡ versionOf image
-  fold-keeps-version e bytes = writes-version fold-of-lawful image done e bytes
+  fold-keeps-version e bytes = writes-version (fold-of-lawful rings) image done e bytes
 
   pub fold-keeps-lengths : answers .number ≡ 0 → Below 256 image → lengthsOf (take (answers .image) new′) ≡ lengthsOf image
-  fold-keeps-lengths e bytes = writes-lengths fold-of-lawful image done e bytes
+  fold-keeps-lengths e bytes = writes-lengths (fold-of-lawful rings) image done e bytes
 
   -- Where fold refuses it writes nothing.
   pub fold-writes-nothing : answers .number ≢ 0 → (answers .image ≡ 0) × (new′ ≡ new)
@@ -164,12 +168,12 @@ bytes-and-pair-get-number image s t =
     (decided-then (imageDemands image) (pairInside rows s t ∷ []) (image-decided image) (λ _. (both (decLt s (size rows)) (decLt t (size rows)), λ _. tt)))
 
 -- and from fold.
-pub bytes-to-fold-get-number : (image : List ℕ) → (number : ℕ) × Verdict (imageDemands image ++ fold-of (versionOf image) .asked (tableOf image .rows)) number
-bytes-to-fold-get-number image =
+pub bytes-to-fold-get-number : (rings : Rings) (image : List ℕ)
+    → (number : ℕ) × Verdict (imageDemands image ++ fold-of rings (versionOf image) .asked (tableOf image .rows)) number
+bytes-to-fold-get-number rings image =
     let rows = tableOf image .rows in
-    let asked = fold-of (versionOf image) .asked rows in
-    gives-number (imageDemands image ++ asked)
-    (decided-then (imageDemands image) asked (image-decided image) (λ met. (acyclic-decided rows (table-sound image met .well-formed), λ _. tt)))
+    let asked = fold-of rings (versionOf image) .asked rows in
+    gives-number (imageDemands image ++ asked) (decided-then (imageDemands image) asked (image-decided image) (λ met. rings-decided rings rows (table-sound image met .well-formed)))
 
 -- where nothing is asked but a good image
 image-alone : (image : List ℕ) {number : ℕ} → Below 256 image → Verdict (imageDemands image) number → (number ≡ 0) ↔ GoodImage image
@@ -197,13 +201,20 @@ judge-answers-exactly image {s} {t} bytes done =
     let (there, back) = passed-exactly {image = image} (pairInside (tableOf image .rows) s t ∷ []) ((λ z. omega arith), tt) bytes (done .verdict) in
     (λ e. (there e .0, there e .1 .0), λ h. back (h .0, (h .1, tt)))
 
--- and by fold if there is no directed cycle.
+-- by fold if there is no directed cycle,
 pub fold-answers-exactly : (image : List ℕ) {out out′ new new′ : List ℕ} {budget : ℕ} {answers : Answers} → Below 256 image
-    → FoldAnswer fold-of image budget out out′ new new′ answers
+    → FoldAnswer (fold-of Refused) image budget out out′ new new′ answers
     → (answers .number ≡ 0) ↔ (GoodImage image × (Cyclic (edges (tableOf image .rows)) → ⊥))
 fold-answers-exactly image bytes done =
-    let (there, back) = passed-exactly {image = image} (fold-of (versionOf image) .asked (tableOf image .rows)) ((λ z. omega arith), tt) bytes (done .verdict) in
+    let (there, back) = passed-exactly {image = image} (fold-of Refused (versionOf image) .asked (tableOf image .rows)) ((λ z. omega arith), tt) bytes (done .verdict) in
     (λ e. (there e .0, there e .1 .0), λ h. back (h .0, (h .1, tt)))
+
+-- and by fold --rings whatever its table.
+pub rings-answers-exactly : (image : List ℕ) {out out′ new new′ : List ℕ} {budget : ℕ} {answers : Answers} → Below 256 image
+    → FoldAnswer (fold-of Taken) image budget out out′ new new′ answers → (answers .number ≡ 0) ↔ GoodImage image
+rings-answers-exactly image bytes done =
+    let (there, back) = passed-exactly {image = image} (fold-of Taken (versionOf image) .asked (tableOf image .rows)) tt bytes (done .verdict) in
+    (λ e. there e .0, λ good. back (good, tt))
 
 -- Of a good image judge refuses any other pair with 13,
 pub judge-refuses-outside : (image : List ℕ) {s t : ℕ} {out out′ : List ℕ} {answer : Answer} → GoodImage image
@@ -212,8 +223,8 @@ judge-refuses-outside image {s} {t} good outside done = good-decides good (pairI
 
 -- and fold one with a cycle with 9.
 pub fold-refuses-cyclic : (image : List ℕ) {out out′ new new′ : List ℕ} {budget : ℕ} {answers : Answers} → GoodImage image → Cyclic (edges (tableOf image .rows))
-    → FoldAnswer fold-of image budget out out′ new new′ answers → answers .number ≡ 9
-fold-refuses-cyclic image good cycle done = good-decides good (fold-of (versionOf image) .asked (tableOf image .rows)) (inl ((λ none. none cycle), refl)) (done .verdict)
+    → FoldAnswer (fold-of Refused) image budget out out′ new new′ answers → answers .number ≡ 9
+fold-refuses-cyclic image good cycle done = good-decides good (fold-of Refused (versionOf image) .asked (tableOf image .rows)) (inl ((λ none. none cycle), refl)) (done .verdict)
 
 -- ---- What is printed where something is refused.
 
@@ -238,12 +249,13 @@ module _ {demands : List Demand} {Right : List ℕ → Type 0} {out out′ : Lis
   )
 
 -- the line of a fold, with some image beside it
-abbrev FoldLine : List ℕ → ℕ → List ℕ → Type 0
-FoldLine image budget printed = (written : List ℕ) × FoldBytes (fold-of (versionOf image)) (versionOf image) (contentsOf image) budget printed written
+abbrev FoldLine : Rings → List ℕ → ℕ → List ℕ → Type 0
+FoldLine rings image budget printed = (written : List ℕ) × FoldBytes (fold-of rings (versionOf image)) (versionOf image) (contentsOf image) budget printed written
 
-module _ (image : List ℕ) {out out′ new new′ : List ℕ} {budget : ℕ} {answers : Answers} (done : FoldAnswer fold-of image budget out out′ new new′ answers) where
+module _ (rings : Rings) (image : List ℕ) {out out′ new new′ : List ℕ} {budget : ℕ} {answers : Answers}
+    (done : FoldAnswer (fold-of rings) image budget out out′ new new′ answers) where
   -- what fold prints is an answer like those of the others
-  line-answered : Answered (imageDemands image ++ fold-of (versionOf image) .asked (tableOf image .rows)) (FoldLine image budget) out out′
+  line-answered : Answered (imageDemands image ++ fold-of rings (versionOf image) .asked (tableOf image .rows)) (FoldLine rings image budget) out out′
       (record { number = answers .number; length = answers .line })
   line-answered =
       record {
@@ -284,8 +296,9 @@ pub judge-tells : (image : List ℕ) {s t : ℕ} {out out′ : List ℕ} {answer
 judge-tells image done = tells done (λ printed right r same. refusal-no-judgement r (right .judgement .yes) (right .judgement .size) (same ∙ right .spelled))
 
 -- and from fold.
-pub fold-tells : (image : List ℕ) {out out′ new new′ : List ℕ} {budget : ℕ} {answers : Answers} → FoldAnswer fold-of image budget out out′ new new′ answers
+pub fold-tells : (rings : Rings) (image : List ℕ) {out out′ new new′ : List ℕ} {budget : ℕ} {answers : Answers}
+    → FoldAnswer (fold-of rings) image budget out out′ new new′ answers
     → (r : ℕ) → (take (answers .line) out′ ≡ text (refusalLines r)) ↔ ((answers .number ≡ r) × (r ≢ 0))
-fold-tells image done =
-    tells (line-answered image done)
+fold-tells rings image done =
+    tells (line-answered rings image done)
     (λ printed right r same. let at = right .1 in refusal-no-fold r (at .folded) (at .left) (length (at .result .rows .targets)) (same ∙ at .spelled))

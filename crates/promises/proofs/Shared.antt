@@ -6,28 +6,30 @@ use mathlib.Core.Logic.{_⊎_}
 use mathlib.Core.List.{[], List·Memᴰ}
 use native.Mathlib.Omega.{arith}
 use lib.ListN.{length, getD}
-use Rattle.table.specs.Table.{Table, edges}
+use Rattle.table.specs.Table.{Table, edges, SoundTable}
 use Rattle.bubble.specs.Superbubble.{Interior}
 use Rattle.rule.specs.Lists.{sum, total}
-use Rattle.rule.specs.Fold.{Candidate, kept-shares, to-each, Item, Applied, Fits}
+use Rattle.rule.specs.Fold.{kept-shares, to-each, Item, Applied, Fits}
 use Rattle.rule.specs.Tables.{count-of}
-use Rattle.rule.specs.Way.{the-fold}
-use Rattle.rule.specs.declared.Choosing.{Choosing}
+use Rattle.rule.specs.Way.{kind-of, candidates-of, the-fold}
+use Rattle.rule.specs.declared.Mode.{Mode}
 use Rattle.rule.proofs.Items.{item-superbubble, dropped-inner, ends-outside}
 use Rattle.rule.proofs.Shares.{one-more-first, one-more-after}
 use Rattle.rule.proofs.Sums.{sum-zero}
 use Rattle.rule.proofs.Total.{whole-dropped}
 use Rattle.rule.proofs.TheFold.{the-fold-lawful}
-use Rattle.promises.specs.Calls.{Foldable, FoldCall}
-use Rattle.promises.proofs.Demand2.{foldable-kind, fold-by-rule}
+use Rattle.promises.specs.Calls.{FoldCall}
+use Rattle.promises.proofs.Demand2.{fold-by-rule}
 
-module _ (by : Choosing) {table table′ : Table} {budget : ℕ} (ok : Foldable table) (call : FoldCall (the-fold by) table budget table′) where
+module _ (mode : Mode) {table table′ : Table} {budget : ℕ} (ok : SoundTable table) (kind : kind-of (mode .rings) (edges (table .rows)))
+    (call : FoldCall (the-fold mode) table budget table′) where
   -- what the rule says of this call, and in it the superbubbles that are folded: entrance, exit, the inner vertices of the kept path, the vertices dropped
-  abbrev pub applied : Applied Candidate (kept-shares by) (edges (table .rows)) (count-of (table .counts)) budget (edges (table′ .rows)) (count-of (table′ .counts))
-  applied = fold-by-rule by ok call .graph-folded .applied
+  abbrev pub applied : Applied (candidates-of (mode .rings)) (kept-shares (mode .by)) (edges (table .rows)) (count-of (table .counts)) budget (edges (table′ .rows))
+      (count-of (table′ .counts))
+  applied = fold-by-rule mode ok kind call .graph-folded .applied
 
   module _ (i : Item) (m : List·Memᴰ i (applied .items)) where
-    fits : Fits Candidate (kept-shares by) (edges (table .rows)) (count-of (table .counts)) i
+    fits : Fits (candidates-of (mode .rings)) (kept-shares (mode .by)) (edges (table .rows)) (count-of (table .counts)) i
     fits = applied .fit i m
 
     -- the sum of the dropped counts, and the number of inner vertices of the kept path
@@ -49,19 +51,19 @@ module _ (by : Choosing) {table table′ : Table} {budget : ℕ} (ok : Foldable 
 
     -- What they get comes to the sum that was dropped,
     pub all-of-it : total (to-each dropped-sum inner-number) inner-number ≡ dropped-sum
-    all-of-it = whole-dropped (the-fold-lawful by .candidates-lawful) (the-fold-lawful by .rule-lawful) i fits (i .arm) (fits .kept)
+    all-of-it = whole-dropped (the-fold-lawful mode .candidates-lawful) (the-fold-lawful mode .rule-lawful) i fits (i .arm) (fits .kept)
 
     -- which is 0 where the bare edge is kept: it takes none, all of them being 0.
     pub bare-edge : i .arm ≡ [] → ((v : ℕ) → Interior (edges (table .rows)) (i .entrance) (i .exit) v → getD (table .counts) v 0 ≡ 0) × (dropped-sum ≡ 0)
     bare-edge q =
         let zero : (v : ℕ) → Interior (edges (table .rows)) (i .entrance) (i .exit) v → getD (table .counts) v 0 ≡ 0
-        = the-fold-lawful by .rule-lawful .bare (item-superbubble (the-fold-lawful by .candidates-lawful) (the-fold-lawful by .rule-lawful) fits) (rw q at (fits .kept)) in
-        (zero, sum-zero (i .dropped) (λ v d. zero v (dropped-inner (the-fold-lawful by .candidates-lawful) (the-fold-lawful by .rule-lawful) fits d)))
+        = the-fold-lawful mode .rule-lawful .bare (item-superbubble (the-fold-lawful mode .candidates-lawful) (the-fold-lawful mode .rule-lawful) fits) (rw q at (fits .kept)) in
+        (zero, sum-zero (i .dropped) (λ v d. zero v (dropped-inner (the-fold-lawful mode .candidates-lawful) (the-fold-lawful mode .rule-lawful) fits d)))
 
     -- Entrance and exit get nothing,
     pub ends-keep : (v : ℕ) → (v ≡ i .entrance) ⊎ (v ≡ i .exit) → getD (table′ .counts) v 0 ≡ getD (table .counts) v 0
     ends-keep v end =
-        applied .untouched v (λ j n inner. ends-outside (the-fold-lawful by .candidates-lawful) (the-fold-lawful by .rule-lawful) (foldable-kind ok) fits (applied .fit j n) end inner)
+        applied .untouched v (λ j n inner. ends-outside (the-fold-lawful mode .candidates-lawful) (the-fold-lawful mode .rule-lawful) kind fits (applied .fit j n) end inner)
 
     -- and each dropped vertex has 0.
     pub dropped-have-none : (v : ℕ) → List·Memᴰ v (i .dropped) → getD (table′ .counts) v 0 ≡ 0

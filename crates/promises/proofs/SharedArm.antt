@@ -16,7 +16,7 @@ use Rattle.rule.specs.Kept.{Via, Via.bare, Via.then, Arm, Beats, Earlier, Earli
 use Rattle.rule.specs.Tables.{count-of, TableFolded}
 use Rattle.rule.specs.declared.Choosing.{Choosing}
 use Rattle.rule.specs.declared.Choosing.the-variants.{Sum, Weakest}
-use Rattle.rule.specs.Way.{the-fold}
+use Rattle.rule.specs.Way.{plain, the-fold}
 use Rattle.rule.specs.Fold.{to-each, NoCycle, Candidate, kept-shares, Entrance, Item, Stays, Applied}
 use Rattle.rule.proofs.Following.{follows-tail}
 use Rattle.rule.proofs.Budgets.{folded-of}
@@ -296,7 +296,7 @@ by-rule : (by : Choosing) (b : ℕ) → TableFolded Candidate (kept-shares by) s
 unfolding applied
 by-rule by b = record {
   same-size = record { well-formed = folded-listed .0; as-many-vertices = refl; as-many-counts = refl };
-  graph-folded = rw (none-behind b) at (folded-of (the-fold-lawful by .candidates-lawful) (the-fold-lawful by .rule-lawful) acyclic (applied by b));
+  graph-folded = rw (none-behind b) at (folded-of (the-fold-lawful (plain by) .candidates-lawful) (the-fold-lawful (plain by) .rule-lawful) acyclic (applied by b));
 }
 
 -- The table can be folded,
@@ -304,9 +304,9 @@ pub shared-arm-foldable : Foldable shared-arm
 shared-arm-foldable = record { sound = record { well-formed = listed .0; count-each = refl; sum-fits = omega arith }; acyclic = folds-acyclic acyclic }
 
 -- and every call of either version with room and a budget of 1 or more leaves 0>1 1>2 2>4 with the counts 5 6 4 0 5, and answers folded 1, left 0, edges 3.
-pub shared-arm-fold : (by : Choosing) (budget : ℕ) {table′ : Table} → 0 < budget → (call : FoldCall (the-fold by) shared-arm budget table′)
+pub shared-arm-fold : (by : Choosing) (budget : ℕ) {table′ : Table} → 0 < budget → (call : FoldCall (the-fold (plain by)) shared-arm budget table′)
     → (table′ ≡ shared-arm-folded) × (call .answer .folded ≡ 1) × (call .answer .left ≡ 0) × (call .answer .edges ≡ 3)
 shared-arm-fold by zero h call = absurd (let none : ⊥ = omega arith in none)
 shared-arm-fold by (suc b) h call =
-    let (same, folded, left) = table-folds-coincide (the-fold-lawful by) acyclic (fold-by-rule by shared-arm-foldable call) (by-rule by b) in
-    (same, folded, left, fold-edges by shared-arm-foldable call ∙ ap (λ (t : Table). length (t .rows .targets)) same)
+    let (same, folded, left) = table-folds-coincide (the-fold-lawful (plain by)) acyclic (fold-by-rule (plain by) (shared-arm-foldable .sound) acyclic call) (by-rule by b) in
+    (same, folded, left, fold-edges (plain by) (shared-arm-foldable .sound) acyclic call ∙ ap (λ (t : Table). length (t .rows .targets)) same)

@@ -8,7 +8,7 @@ use native.Mathlib.Decide.{decLt}
 use native.Mathlib.Omega.{arith}
 use lib.ListN.{length}
 use Rattle.table.specs.Limits.{vertex-limit}
-use Rattle.table.specs.Table.{Table, size, edges}
+use Rattle.table.specs.Table.{Table, size, edges, SoundTable}
 use Rattle.table.specs.Numbers.{roomFor}
 use Rattle.layout.specs.Bytes.{spelled}
 use Rattle.layout.specs.Image.{Contents, imageLength, largest-image, headerOf, imageOf}
@@ -17,14 +17,16 @@ use Rattle.image.specs.Contracts.{contentsRoom}
 use Rattle.writing.specs.declared.Extent.{Extent}
 use Rattle.writing.specs.Writing.{imageRoom, contentsDemands, Written}
 use Rattle.rule.specs.declared.Choosing.the-variants.{Sum, Weakest}
+use Rattle.rule.specs.declared.Mode.{Mode}
+use Rattle.rule.specs.declared.Rings.{Rings}
 use Rattle.rule.specs.Lists.{Graph, Counts, sum}
 use Rattle.rule.specs.Kept.{Arm, Earlier, least, weakest, Best}
-use Rattle.rule.specs.Fold.{Candidate, kept-shares, Item, Fits}
+use Rattle.rule.specs.Fold.{kept-shares, Item, Fits}
 use Rattle.rule.specs.Tables.{count-of}
-use Rattle.rule.specs.Way.{the-fold}
+use Rattle.rule.specs.Way.{kind-of, candidates-of, the-fold}
 use Rattle.rule.proofs.BestLaws.{weakest-never-bare}
-use Rattle.rule.proofs.Candidates.{candidate-laws}
-use Rattle.promises.specs.Calls.{Foldable, FoldCall}
+use Rattle.rule.proofs.TheFold.{candidates-lawful}
+use Rattle.promises.specs.Calls.{FoldCall}
 use Rattle.promises.specs.Weakest.{Smallest}
 use Rattle.promises.specs.InARow.{numbers}
 use Rattle.promises.proofs.LookAndLoad.{never}
@@ -62,17 +64,24 @@ module _ {score : Counts → List ℕ → ℕ} {E : Graph} {c : Counts} {s t : �
   most : (l : List ℕ) → Arm E s t l → score c l ≤ score c arm
   most l path = elim (decLt (score c arm) (score c l)) [ yes h ↦ absurd (kept .unbeaten l path (inl h)) | no h ↦ omega arith ]
 
-module _ {table table′ : Table} {budget : ℕ} (ok : Foldable table) where
-  -- Of each superbubble that the fold of version 2 folds,
-  module _ (call : FoldCall (the-fold Weakest) table budget table′) (i : Item) (m : List·Memᴰ i (applied Weakest ok call .items)) where
-    fits : Fits Candidate (kept-shares Weakest) (edges (table .rows)) (count-of (table .counts)) i
-    fits = applied Weakest ok call .fit i m
+-- the folds of version 1, and those of version 2
+abbrev version-1 : Rings → Mode
+version-1 rings = record { rings = rings; by = Sum }
+
+abbrev version-2 : Rings → Mode
+version-2 rings = record { rings = rings; by = Weakest }
+
+module _ (rings : Rings) {table table′ : Table} {budget : ℕ} (ok : SoundTable table) (kind : kind-of rings (edges (table .rows))) where
+  -- Of each superbubble that the fold of version 2 folds, with rings refused or taken,
+  module _ (call : FoldCall (the-fold (version-2 rings)) table budget table′) (i : Item) (m : List·Memᴰ i (applied (version-2 rings) ok kind call .items)) where
+    fits : Fits (candidates-of rings) (kept-shares Weakest) (edges (table .rows)) (count-of (table .counts)) i
+    fits = applied (version-2 rings) ok kind call .fit i m
 
     -- the bare edge is never kept:
     pub bare-edge-never-kept : i .arm ≢ []
     bare-edge-never-kept none =
-        let (v, inside) = candidate-laws .interior (fits .candidate) in
-        weakest-never-bare (candidate-laws .superbubble (fits .candidate)) inside (rw none at (fits .kept))
+        let (v, inside) = candidates-lawful rings .interior (fits .candidate) in
+        weakest-never-bare (candidates-lawful rings .superbubble (fits .candidate)) inside (rw none at (fits .kept))
 
     -- the inner vertices of the kept path have a smallest count,
     pub kept-smallest : (k : ℕ) × Smallest (count-of (table .counts)) (i .arm) k
@@ -101,9 +110,9 @@ module _ {table table′ : Table} {budget : ℕ} (ok : Foldable table) where
           fits .kept .unbeaten l path (inr (equal, earlier))
 
   -- Version 1 keeps the sum: no path has a larger one than the kept path.
-  pub kept-largest-sum : (call : FoldCall (the-fold Sum) table budget table′) (i : Item) → List·Memᴰ i (applied Sum ok call .items)
+  pub kept-largest-sum : (call : FoldCall (the-fold (version-1 rings)) table budget table′) (i : Item) → List·Memᴰ i (applied (version-1 rings) ok kind call .items)
       → (l : List ℕ) → Arm (edges (table .rows)) (i .entrance) (i .exit) l → sum (count-of (table .counts)) l ≤ sum (count-of (table .counts)) (i .arm)
-  kept-largest-sum call i m = most (applied Sum ok call .fit i m .kept)
+  kept-largest-sum call i m = most (applied (version-1 rings) ok kind call .fit i m .kept)
 
 -- ---- The image.
 

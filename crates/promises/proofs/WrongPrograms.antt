@@ -24,15 +24,15 @@ use Rattle.listing.specs.Listing.{ListDone}
 use Rattle.listing.proofs.ListLaws.{listed-determined}
 use Rattle.promises.proofs.TwelveGraphs.{twelve-graphs}
 use Rattle.rule.specs.Lists.{Listing}
-use Rattle.rule.specs.Fold.{Candidate, Entrance}
-use Rattle.rule.specs.Way.{the-fold}
-use Rattle.rule.specs.declared.Choosing.{Choosing}
+use Rattle.rule.specs.Fold.{Entrance}
+use Rattle.rule.specs.Way.{kind-of, candidates-of, the-fold}
+use Rattle.rule.specs.declared.Mode.{Mode}
 use Rattle.rule.proofs.Listings.{listing-unique}
 use Rattle.rule.proofs.Remaining.{remaining-listed, items-number}
 use Rattle.rule.proofs.TheFold.{the-fold-lawful}
-use Rattle.promises.specs.Calls.{Foldable, FoldCall}
+use Rattle.promises.specs.Calls.{FoldCall}
 use Rattle.promises.proofs.RoundTrip.{image-seen, image-loaded}
-use Rattle.promises.proofs.Demand2.{list-exact, foldable-kind, fold-by-rule}
+use Rattle.promises.proofs.Demand2.{list-exact, fold-by-rule}
 
 -- ---- Refusing everything: a well-formed table is given 0, without its counts and with them;
 
@@ -78,27 +78,27 @@ no-list-for-all {out} {out′} {answer} taken b c =
 
 -- ---- A fold that copies its input, one that does every candidate on the first budget, and an invented folded or left:
 
-module _ (by : Choosing) {table table′ : Table} {budget : ℕ} (ok : Foldable table) (call : FoldCall (the-fold by) table budget table′)
-    {candidates : List ℕ} (listed : Listing (Entrance Candidate (edges (table .rows))) candidates) where
+module _ (mode : Mode) {table table′ : Table} {budget : ℕ} (ok : SoundTable table) (kind : kind-of (mode .rings) (edges (table .rows)))
+    (call : FoldCall (the-fold mode) table budget table′) {candidates : List ℕ} (listed : Listing (Entrance (candidates-of (mode .rings)) (edges (table .rows))) candidates) where
   -- the candidates of the new table are those after the first ones of the old, as many as the budget
-  pub candidates-after : Listing (Entrance Candidate (edges (table′ .rows))) (drop budget candidates)
+  pub candidates-after : Listing (Entrance (candidates-of (mode .rings)) (edges (table′ .rows))) (drop budget candidates)
   candidates-after =
-      let folded = fold-by-rule by ok call .graph-folded .applied in
+      let folded = fold-by-rule mode ok kind call .graph-folded .applied in
       let same : folded .candidates ≡ candidates = listing-unique (folded .listed) listed in
-      rw same at (remaining-listed (the-fold-lawful by .candidates-lawful) (the-fold-lawful by .rule-lawful) (foldable-kind ok) folded)
+      rw same at (remaining-listed (the-fold-lawful mode .candidates-lawful) (the-fold-lawful mode .rule-lawful) kind folded)
 
   -- folded is the number of the old table's candidates, or the budget if that is less
   pub folded-is : call .answer .folded ≡ min budget (length candidates)
   folded-is =
-      let folded = fold-by-rule by ok call .graph-folded in
+      let folded = fold-by-rule mode ok kind call .graph-folded in
       let same : folded .applied .candidates ≡ candidates = listing-unique (folded .applied .listed) listed in
-      rw same at (folded .how-many ∙ items-number (the-fold-lawful by .candidates-lawful) (the-fold-lawful by .rule-lawful) (foldable-kind ok) (folded .applied))
+      rw same at (folded .how-many ∙ items-number (the-fold-lawful mode .candidates-lawful) (the-fold-lawful mode .rule-lawful) kind (folded .applied))
 
   -- left is the number of the new table's candidates, and so of those that were not folded
-  pub left-is : {after : List ℕ} → Listing (Entrance Candidate (edges (table′ .rows))) after
+  pub left-is : {after : List ℕ} → Listing (Entrance (candidates-of (mode .rings)) (edges (table′ .rows))) after
       → (call .answer .left ≡ length after) × (call .answer .left ≡ length candidates - call .answer .folded)
   left-is {after} there =
-      let (l, held, number) = fold-by-rule by ok call .graph-folded .remaining in
+      let (l, held, number) = fold-by-rule mode ok kind call .graph-folded .remaining in
       let number-after : length after ≡ length (drop budget candidates) = ap length (listing-unique there candidates-after) in
       let number-left : call .answer .left ≡ length after = number ∙ ap length (listing-unique held there) in
       (number-left, omega (arith, number-left, number-after, length-drop budget candidates, folded-is))
@@ -106,13 +106,13 @@ module _ (by : Choosing) {table table′ : Table} {budget : ℕ} (ok : Foldable 
   -- a fold by a budget of 1 or more does not give back a table that has a candidate
   pub no-copy : 0 < budget → 0 < length candidates → table′ .rows ≡ table .rows → ⊥
   no-copy some has same =
-      let again : Listing (Entrance Candidate (edges (table .rows))) (drop budget candidates) = rw same at candidates-after in
+      let again : Listing (Entrance (candidates-of (mode .rings)) (edges (table .rows))) (drop budget candidates) = rw same at candidates-after in
       omega (arith, ap length (listing-unique again listed), length-drop budget candidates)
 
   -- and by a budget below the number of candidates it leaves one to fold
-  pub not-all-at-once : budget < length candidates → ((s t : ℕ) → Candidate (edges (table′ .rows)) s t → ⊥) → ⊥
+  pub not-all-at-once : budget < length candidates → ((s t : ℕ) → candidates-of (mode .rings) (edges (table′ .rows)) s t → ⊥) → ⊥
   not-all-at-once fewer none = first (drop budget candidates) candidates-after (length-drop budget candidates)
     where
-      first : (l : List ℕ) → Listing (Entrance Candidate (edges (table′ .rows))) l → length l ≡ length candidates - budget → ⊥
+      first : (l : List ℕ) → Listing (Entrance (candidates-of (mode .rings)) (edges (table′ .rows))) l → length l ≡ length candidates - budget → ⊥
       first [] there many = omega (arith, many)
       first (s ∷ l) there many = let (t, candidate) = there .holds s .0 (List·Memᴰ·head refl) in none s t candidate
