@@ -1,7 +1,7 @@
 // Whether the library and the plain C give the same answers, asked where a wrong one would differ: on the graphs A to
-// L, on small tables full of superbubbles and ties, on damaged tables and damaged images of both versions, with exact
-// room and one less, and on both sides of each limit. Every comparison is counted, and takes in all the memory that was
-// lent.
+// N, on small tables and rings full of superbubbles and ties, on damaged tables and damaged images of both versions,
+// with exact room and one less, and on both sides of each limit. Every comparison is counted, and takes in all the
+// memory that was lent.
 #include "bench.h"
 
 // ---- the count
@@ -42,6 +42,8 @@ COMPARED(list, "list", lists)
 COMPARED(judge, "judge", judges)
 COMPARED(fold, "fold", folds)
 COMPARED(fold_weakest, "fold, weakest", folds_weakest)
+COMPARED(fold_rings, "fold, rings", folds_rings)
+COMPARED(fold_rings_weakest, "fold, rings, weakest", folds_rings_weakest)
 
 static void look_and_load(void) { // the image at hand
     look();
@@ -60,9 +62,11 @@ static void write_both(void) {
     write_lengths();
 }
 
-static void fold_both(void) {
+static void each_fold(void) { // of both versions, with rings refused and with rings taken
     fold();
     fold_weakest();
+    fold_rings();
+    fold_rings_weakest();
 }
 
 static void each_call(void) { // on the table at hand, and on its images
@@ -70,7 +74,7 @@ static void each_call(void) { // on the table at hand, and on its images
     write_both();
     list();
     judge();
-    fold_both();
+    each_fold();
 }
 
 // ---- a table that is not damaged: rooms, budgets and pairs
@@ -92,9 +96,9 @@ static void with_one_less(usize *length, void (*call)(void)) {
     ++*length;
 }
 
-static void load_and_fold_both(void) {
+static void load_and_each_fold(void) {
     look_and_load_both();
-    fold_both();
+    each_fold();
 }
 
 static void compare_rooms(void) { // more than is needed, none, exactly that of each version, and each alone one less
@@ -107,9 +111,9 @@ static void compare_rooms(void) { // more than is needed, none, exactly that of 
     lend_exact_room(2);
     each_call();
     with_one_less(&lent.out, list);
-    with_one_less(&lent.starts2, load_and_fold_both);
-    with_one_less(&lent.targets2, load_and_fold_both);
-    with_one_less(&lent.counts2, load_and_fold_both);
+    with_one_less(&lent.starts2, load_and_each_fold);
+    with_one_less(&lent.targets2, load_and_each_fold);
+    with_one_less(&lent.counts2, load_and_each_fold);
     with_one_less(&lent.lengths2, look_and_load_both);
     with_one_less(&lent.image2, write_both);
 }
@@ -134,8 +138,8 @@ static void compare_there_and_back(void) { // what is loaded is the table, and w
 
 static void compare_budgets(void) { // 0, 1, 2, 3, and the powers of four; the rooms are compared with ALL
     struct asked before = asked;
-    for (asked.budget = 0; asked.budget < 4; asked.budget++) fold_both();
-    for (asked.budget = 4; asked.budget != 0; asked.budget *= 4) fold_both();
+    for (asked.budget = 0; asked.budget < 4; asked.budget++) each_fold();
+    for (asked.budget = 4; asked.budget != 0; asked.budget *= 4) each_fold();
     asked = before;
 }
 
@@ -301,7 +305,7 @@ static void compare_halves(void) {
     table.counts[0] = table.counts[3] = 0;
     table.counts[1] = MOST_COUNTED / 2;
     table.counts[2] = MOST_COUNTED / 2 + 1;
-    fold_both();
+    each_fold();
 }
 
 // ---- the largest tables, and those one larger
@@ -318,6 +322,8 @@ static void compare_limits(void) {
     make_superbubbles(MOST);
     compare_budgets();
     compare_superbubbles();
+    make_bare_edges(MOST);
+    each_fold();
     for (usize m = MOST_EDGES; m <= MOST_EDGES + 1; m++) {
         make_random("acyclic", 200, m, 0);
         compare_rooms();
@@ -367,7 +373,7 @@ static void compare_images(void) {
 // ---- all of it
 
 void compare_answers(void) {
-    for (char letter = 'A'; letter <= 'L'; letter++) {
+    for (char letter = 'A'; letter <= 'N'; letter++) {
         make_graph(letter);
         compare_rooms();
         compare_budgets();
@@ -375,16 +381,20 @@ void compare_answers(void) {
         compare_damages();
     }
     for (u32 which = 0; which < 300; which++) {
-        make_drawn(which, 12);
+        make_drawn(which, 12, 0);
         compare_rooms();
         compare_budgets();
         compare_pairs();
         if (which < 10) compare_damages();
+        make_drawn(which, 12, 1);
+        compare_budgets();
     }
     for (u32 which = 0; which < 50; which++) {
-        make_drawn(which, 200);
+        make_drawn(which, 200, 0);
         compare_rooms();
         compare_superbubbles();
+        make_drawn(which, 200, 1);
+        compare_budgets();
     }
     for (u32 t = 0; t < 300; t++) {
         make_arms(300, t);
@@ -392,6 +402,12 @@ void compare_answers(void) {
     }
     for (usize inner = 1; inner <= 40; inner++) {
         make_two_arms(300, inner);
+        compare_budgets();
+    }
+    for (usize n = 4; n <= 300; n += 4) {
+        make_ring(n);
+        compare_budgets();
+        make_bare_edges(n);
         compare_budgets();
     }
     compare_choices();
@@ -410,4 +426,6 @@ void compare_answers(void) {
     count(judge_numbers == (0x3f | 1u << 13), "judge", "the numbers given are not 0 to 5 and 13");
     count(fold_numbers == 0x3ff, "fold", "the numbers given are not 0 to 9");
     count(fold_weakest_numbers == 0x3ff, "fold, weakest", "the numbers given are not 0 to 9");
+    count(fold_rings_numbers == of_table, "fold, rings", "the numbers given are not 0 to 8");
+    count(fold_rings_weakest_numbers == of_table, "fold, rings, weakest", "the numbers given are not 0 to 8");
 }

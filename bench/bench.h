@@ -45,13 +45,15 @@ void make_chain(usize n);
 void make_cycle(usize n);
 void make_comb(usize n);
 void make_nested(usize n);
+void make_ring(usize n);
+void make_bare_edges(usize n);
 void make_layers(usize n);
 void make_two_arms(usize n, usize inner);
 void make_random(const char *name, usize n, usize m, _Bool cycles);
 void make_graph(char letter);
 void make_superbubbles(usize n);
 void make_arms(usize n, u32 t);
-void make_drawn(u32 which, u32 most);
+void make_drawn(u32 which, u32 most, _Bool ring);
 
 // Makes the image of the table at hand, sound or not, of version 2 with its lengths, and lends it.
 void make_image(u32 version);
@@ -80,7 +82,9 @@ extern struct answers ours, theirs;
     void NAME##_lists(void);                                                                                         \
     void NAME##_judges(void);                                                                                        \
     void NAME##_folds(void);                                                                                         \
-    void NAME##_folds_weakest(void);
+    void NAME##_folds_weakest(void);                                                                                 \
+    void NAME##_folds_rings(void);                                                                                   \
+    void NAME##_folds_rings_weakest(void);
 
 CALLS_AT_HAND(gohardim)
 CALLS_AT_HAND(plain)

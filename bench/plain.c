@@ -1,4 +1,4 @@
-// Look, load and the two writes, list, judge and the two folds in plain C: the algorithms of the crates step by step,
+// Look, load and the two writes, list, judge and the four folds in plain C: the algorithms of the crates step by step,
 // with the same checks, the same working arrays and the same answers. The measure that the library is held against.
 #include "plain.h"
 
@@ -202,6 +202,11 @@ static void count_parents(const u32 *targets, usize m, u32 *parents, usize n) {
     for (usize k = 0; k < m; k++) parents[targets[k]]++;
 }
 
+static _Bool holds(const u32 *row, const u32 *end, u32 v) {
+    while (row < end && *row != v) row++;
+    return row < end;
+}
+
 // Visits a vertex once all its parents are, until one is ready and no other is reached. Answers whether there is an
 // exit; how many were visited is handed out in either case, and what is left of the parents is whole again.
 static _Bool search(const u32 *starts, const u32 *targets, const u32 *parents, u32 *left, u32 *order, u32 s,
@@ -212,16 +217,14 @@ static _Bool search(const u32 *starts, const u32 *targets, const u32 *parents, u
     while (head < tail) {
         u32 v = order[head];
         const u32 *row = targets + starts[v], *end = targets + starts[v + 1];
-        const u32 *edge = row;
-        while (edge < end && *edge != s) edge++;
-        if (edge < end) break;
+        if (holds(row, end, s)) break;
         if (head != 0 && tail == head + 1 && waiting == 0) {
             *exit = v;
             found = 1;
             break;
         }
         if (row == end) break;
-        for (edge = row; edge < end; edge++) {
+        for (const u32 *edge = row; edge < end; edge++) {
             u32 u = *edge, all = parents[u], some = left[u];
             order[tail] = u;
             left[u] = some - 1;
@@ -329,15 +332,42 @@ static _Bool has_cycle(const u32 *starts, const u32 *targets, usize n) {
     return 0;
 }
 
-// The exit of each outermost superbubble with an interior, by its entrance, and n for every other vertex.
-static usize find_candidates(const u32 *starts, const u32 *targets, usize n, const u32 *parents, u32 *left, u32 *order,
-                             u32 *exits) {
+// Whether a path leads from one vertex to another: breadth first, each vertex in the queue once, and asked once a row.
+_Bool plain_reaches(const u32 *starts, const u32 *targets, usize n, u32 from, u32 to) {
+    u8 marks[MOST];
+    u16 queue[MOST];
+    memset(marks, 0, n);
+    marks[from] = 1;
+    queue[0] = from;
+    usize tail = 1;
+    for (usize head = 0; head < tail && !marks[to]; head++) {
+        u32 v = queue[head];
+        for (usize e = starts[v]; e < starts[v + 1]; e++) {
+            u32 u = targets[e];
+            if (marks[u]) continue;
+            marks[u] = 1;
+            queue[tail++] = u;
+        }
+    }
+    return marks[to];
+}
+
+// Whether a superbubble with an interior is never itself folded: it has a bare edge, and its exit reaches its entrance.
+static _Bool is_skipped(const u32 *starts, const u32 *targets, usize n, u32 s, u32 t) {
+    return holds(targets + starts[s], targets + starts[s + 1], t) && plain_reaches(starts, targets, n, t, s);
+}
+
+// The exit of each candidate, by its entrance, and n for every other vertex: of the superbubbles with an interior, in a
+// table with a cycle without those that are skipped, the outermost.
+static usize find_candidates(_Bool cyclic, const u32 *starts, const u32 *targets, usize n, const u32 *parents,
+                             u32 *left, u32 *order, u32 *exits) {
     memset(exits, 0, n * sizeof *exits);
     for (u32 s = 0; s < n; s++) {
         u32 t;
         usize visited;
         if (exits[s] == n) continue;
-        if (!search(starts, targets, parents, left, order, s, &t, &visited) || visited < 2) {
+        if (!search(starts, targets, parents, left, order, s, &t, &visited) || visited < 2 ||
+            (cyclic && is_skipped(starts, targets, n, s, t))) {
             exits[s] = n;
             continue;
         }
@@ -428,9 +458,12 @@ static usize write_table(const u32 *starts, const u32 *targets, usize n, const u
     return at;
 }
 
-static u32 fold(enum choosing by, const u32 *starts, usize starts_len, const u32 *targets, usize m, const u64 *counts,
-                usize counts_len, u32 budget, u32 *starts2, usize starts2_len, u32 *targets2, usize targets2_len,
-                u64 *counts2, usize counts2_len, usize *folded, usize *left_over, usize *edges) {
+// Whether a table with a cycle is refused or taken.
+enum rings { REFUSED, TAKEN };
+
+static u32 fold(enum rings rings, enum choosing by, const u32 *starts, usize starts_len, const u32 *targets, usize m,
+                const u64 *counts, usize counts_len, u32 budget, u32 *starts2, usize starts2_len, u32 *targets2,
+                usize targets2_len, u64 *counts2, usize counts2_len, usize *folded, usize *left_over, usize *edges) {
     *folded = *left_over = *edges = 0;
     u32 number = check(starts, starts_len, targets, m);
     if (number != 0) return number;
@@ -438,12 +471,13 @@ static u32 fold(enum choosing by, const u32 *starts, usize starts_len, const u32
     number = check_counts(counts, counts_len, n);
     if (number != 0) return number;
     if (starts2_len < n + 1 || targets2_len < m || counts2_len < n) return 8;
-    if (has_cycle(starts, targets, n)) return 9;
+    _Bool cyclic = has_cycle(starts, targets, n);
+    if (cyclic && rings == REFUSED) return 9;
     u32 parents[MOST], left[MOST], order[MOST], exits[MOST], next[MOST];
     u64 best[MOST];
     count_parents(targets, m, parents, n);
     memcpy(left, parents, n * sizeof *left);
-    usize found = find_candidates(starts, targets, n, parents, left, order, exits);
+    usize found = find_candidates(cyclic, starts, targets, n, parents, left, order, exits);
     for (usize v = 0; v < n; v++) next[v] = n;
     memcpy(counts2, counts, n * sizeof *counts);
     usize done = 0;
@@ -461,17 +495,15 @@ static u32 fold(enum choosing by, const u32 *starts, usize starts_len, const u32
     return 0;
 }
 
-u32 plain_fold(const u32 *starts, usize starts_len, const u32 *targets, usize m, const u64 *counts, usize counts_len,
-               u32 budget, u32 *starts2, usize starts2_len, u32 *targets2, usize targets2_len, u64 *counts2,
-               usize counts2_len, usize *folded, usize *left_over, usize *edges) {
-    return fold(SUM, starts, starts_len, targets, m, counts, counts_len, budget, starts2, starts2_len, targets2,
-                targets2_len, counts2, counts2_len, folded, left_over, edges);
-}
+#define FOLD(NAME, RINGS, BY)                                                                                        \
+    u32 NAME(const u32 *starts, usize starts_len, const u32 *targets, usize m, const u64 *counts, usize counts_len,  \
+             u32 budget, u32 *starts2, usize starts2_len, u32 *targets2, usize targets2_len, u64 *counts2,           \
+             usize counts2_len, usize *folded, usize *left_over, usize *edges) {                                     \
+        return fold(RINGS, BY, starts, starts_len, targets, m, counts, counts_len, budget, starts2, starts2_len,     \
+                    targets2, targets2_len, counts2, counts2_len, folded, left_over, edges);                         \
+    }
 
-u32 plain_fold_weakest(const u32 *starts, usize starts_len, const u32 *targets, usize m, const u64 *counts,
-                       usize counts_len, u32 budget, u32 *starts2, usize starts2_len, u32 *targets2,
-                       usize targets2_len, u64 *counts2, usize counts2_len, usize *folded, usize *left_over,
-                       usize *edges) {
-    return fold(WEAKEST, starts, starts_len, targets, m, counts, counts_len, budget, starts2, starts2_len, targets2,
-                targets2_len, counts2, counts2_len, folded, left_over, edges);
-}
+FOLD(plain_fold, REFUSED, SUM)
+FOLD(plain_fold_weakest, REFUSED, WEAKEST)
+FOLD(plain_fold_rings, TAKEN, SUM)
+FOLD(plain_fold_rings_weakest, TAKEN, WEAKEST)

@@ -16,6 +16,11 @@ __typeof__(gohardim_list) plain_list;
 __typeof__(gohardim_judge) plain_judge;
 __typeof__(gohardim_fold) plain_fold;
 __typeof__(gohardim_fold_weakest) plain_fold_weakest;
+__typeof__(gohardim_fold_rings) plain_fold_rings;
+__typeof__(gohardim_fold_rings_weakest) plain_fold_rings_weakest;
+
+// The walk of the folds that take rings, by itself, so that it can be timed.
+_Bool plain_reaches(const u32 *starts, const u32 *targets, usize n, u32 from, u32 to);
 
 void *memset(void *to, int byte, usize size);
 void *memcpy(void *restrict to, const void *restrict from, usize size);

@@ -144,8 +144,9 @@ static void nest(u32 s, u32 t, usize inner) {
     }
 }
 
-// Some superbubbles one after the other, with superbubbles in their arms.
-void make_nested(usize n) {
+// Some superbubbles one after the other, with superbubbles in their arms, and with a bare edge in each of the outermost
+// or as it is drawn. Answers the exit of the last.
+static u32 nest_in_a_row(usize n, _Bool bare) {
     seed = 2040;
     fresh = 1;
     u32 at = 0;
@@ -154,9 +155,37 @@ void make_nested(usize n) {
         u32 to = fresh++;
         usize part = room < 64 ? room : 64 + draw(room / 4 + 1);
         nest(at, to, part < room ? part : room);
+        if (bare) edge(at, to);
         at = to;
     }
+    return at;
+}
+
+void make_nested(usize n) {
+    nest_in_a_row(n, 0);
     make("nested", n, 1000);
+}
+
+// The same, closed to a ring; its outermost superbubbles are skipped, and the candidates lie in their arms.
+void make_ring(usize n) {
+    edge(nest_in_a_row(n, 1), 0);
+    make("ring", n, 1000);
+}
+
+// As many superbubbles with an interior as there can be, one after the other, each with a bare edge; closed to a ring,
+// where n is even, or not.
+static void bare_edges(usize n, _Bool ring) {
+    for (u32 v = 0; v + 2 < n + ring; v += 2) {
+        u32 t = (v + 2) % n;
+        edge(v, v + 1);
+        edge(v, t);
+        edge(v + 1, t);
+    }
+}
+
+void make_bare_edges(usize n) {
+    bare_edges(n, 1);
+    make("bare edges", n, 1000);
 }
 
 // m edges drawn at random; without a cycle they lead to larger vertices.
@@ -180,7 +209,9 @@ void make_random(const char *name, usize n, usize m, _Bool cycles) {
 
 // ---- tables to be compared
 
-// The twelve graphs A to L. J, K and L have the counts of their folds, and B has the largest sum.
+// The twelve graphs A to L, and two rings, M and N. J, K and L have the counts of their folds, and B has the largest
+// sum. In M a candidate, 4,3, lies inside a superbubble that is skipped, 2,5. N has no candidate, and would get one by
+// the fold of 0,2, which is skipped.
 void make_graph(char letter) {
     static const struct {
         const char *name, *edges;
@@ -199,6 +230,8 @@ void make_graph(char letter) {
         {"J", "0>1 0>5 1>2 1>3 2>4 3>4 4>6 5>6", 7, {10, 4, 3, 2, 4, 12, 10}},
         {"K", "0>1 0>2 1>3 2>3 3>4 3>5 4>6 5>6", 7, {5, 2, 2, 5, 1, 4, 5}},
         {"L", "0>1 0>2 1>2", 3, {3, 0, 3}},
+        {"M", "0>3 1>3 2>4 2>5 3>5 4>0 4>1 5>6 6>2", 7, {2, 3, 5, 5, 5, 5, 5}},
+        {"N", "0>1 0>2 1>2 2>3 2>4 3>0 4>0", 5, {4, 1, 4, 2, 2}},
     };
     usize k = letter - 'A';
     for (const char *from = graphs[k].edges; *from != 0; from += from[3] == ' ' ? 4 : 3)
@@ -207,13 +240,8 @@ void make_graph(char letter) {
     memcpy(table.counts, graphs[k].counts, table.n * sizeof *table.counts);
 }
 
-// As many superbubbles with an interior as there can be, one after the other.
 void make_superbubbles(usize n) {
-    for (u32 v = 0; v + 2 < n; v += 2) {
-        edge(v, v + 1);
-        edge(v, v + 2);
-        edge(v + 1, v + 2);
-    }
+    bare_edges(n, 0);
     make("superbubbles", n, 1000);
 }
 
@@ -235,19 +263,20 @@ static u32 step(u32 most) { // 1, 2 or 3, but at most `most`; the smaller, the m
 }
 
 // At most `most` vertices in a row, each with an edge from one before it and an edge to one behind it: superbubbles one
-// after the other and within each other. Up to two edges more may spoil some or close a cycle. The vertices are then
-// numbered at random. The counts are all 0 or up to 3, so that paths tie, and in every fifth table as many times larger
-// as their sum allows.
-void make_drawn(u32 which, u32 most) {
+// after the other and within each other. In a ring an edge leads from the last to the first. Up to two edges more may
+// spoil some or close a cycle. The vertices are then numbered at random. The counts are all 0 or up to 3, so that paths
+// tie, and in every fifth table as many times larger as their sum allows.
+void make_drawn(u32 which, u32 most, _Bool ring) {
     static char name[16];
     static u32 numbers[MOST];
-    snprintf(name, sizeof name, "drawn %u", which);
+    snprintf(name, sizeof name, "%s %u", ring ? "ring" : "drawn", which);
     seed = which;
     u32 n = 1 + draw(most);
     for (u32 v = 1; v < n; v++) {
         edge(v - step(v), v);
         edge(n - 1 - v, n - 1 - v + step(v));
     }
+    if (ring) edge(n - 1, 0);
     for (u32 more = draw(3); more > 0; more--) edge(draw(n), draw(n));
     for (u32 v = 0; v < n; v++) {
         u32 other = draw(v + 1);

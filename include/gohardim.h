@@ -1,5 +1,5 @@
 // The calls of Gohardim for a C program: look, load and the two writes on the image of a graph table, and list, judge
-// and the two folds on the table, proved in Rattle (crates/calls). docs/RULES.md has the rules that they keep, and
+// and the four folds on the table, proved in Rattle (crates/calls). docs/RULES.md has the rules that they keep, and
 // docs/CONTRACTS.md what is proved of each.
 //
 // To build and link, in the root of the repository, on Linux on x86-64:
@@ -46,7 +46,7 @@
 //      6    counts does not have n numbers, or lengths does not, where they are to be written
 //      7    the counts sum above 1,099,511,627,775
 //      8    a slice that is to be stored to is too short
-//      9    the table has a directed cycle, and a self-loop is one
+//      9    the table has a directed cycle, and a self-loop is one; of gohardim_fold and gohardim_fold_weakest alone
 //     10    the image has fewer than 13 bytes, or doesn't begin with the mark
 //     11    the version of the image is neither 1 nor 2
 //     12    the image is not as long as its own version, n and m ask for
@@ -191,6 +191,33 @@ gohardim_u32 gohardim_fold_weakest(const gohardim_u32 *starts, gohardim_size sta
                                    gohardim_u32 *targets2, gohardim_size targets2_len, gohardim_u64 *counts2,
                                    gohardim_size counts2_len, gohardim_size *folded, gohardim_size *left,
                                    gohardim_size *edges);
+
+// Folds the first candidates of any table of version 1, cycles included, as many as the budget, into a second table.
+//
+// As gohardim_fold, but with other candidates. A superbubble with a bare edge from entrance to exit whose exit also
+// reaches its entrance, by a path anywhere in the table, is skipped: it is never itself folded. The candidates are the
+// other superbubbles with an interior, outermost among themselves: one may lie inside a superbubble that is skipped. On
+// a table without a cycle the answer and the slices are those of gohardim_fold.
+// *left counts candidates: superbubbles with an interior that are skipped may remain in the second table beside them.
+// Gives 0, 1 to 7, or 8 where starts2, targets2 or counts2 is shorter, and never 9.
+gohardim_u32 gohardim_fold_rings(const gohardim_u32 *starts, gohardim_size starts_len, const gohardim_u32 *targets,
+                                 gohardim_size targets_len, const gohardim_u64 *counts, gohardim_size counts_len,
+                                 gohardim_u32 budget, gohardim_u32 *starts2, gohardim_size starts2_len,
+                                 gohardim_u32 *targets2, gohardim_size targets2_len, gohardim_u64 *counts2,
+                                 gohardim_size counts2_len, gohardim_size *folded, gohardim_size *left,
+                                 gohardim_size *edges);
+
+// Folds the first candidates of any table of version 2, cycles included, as many as the budget, into a second table.
+//
+// As gohardim_fold_rings, with the same candidates, but of each the path is kept that gohardim_fold_weakest keeps. On a
+// table without a cycle the answer and the slices are those of gohardim_fold_weakest.
+gohardim_u32 gohardim_fold_rings_weakest(const gohardim_u32 *starts, gohardim_size starts_len,
+                                         const gohardim_u32 *targets, gohardim_size targets_len,
+                                         const gohardim_u64 *counts, gohardim_size counts_len, gohardim_u32 budget,
+                                         gohardim_u32 *starts2, gohardim_size starts2_len, gohardim_u32 *targets2,
+                                         gohardim_size targets2_len, gohardim_u64 *counts2,
+                                         gohardim_size counts2_len, gohardim_size *folded, gohardim_size *left,
+                                         gohardim_size *edges);
 
 #ifdef __cplusplus
 }
