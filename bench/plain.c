@@ -357,9 +357,12 @@ static _Bool is_skipped(const u32 *starts, const u32 *targets, usize n, u32 s, u
     return holds(targets + starts[s], targets + starts[s + 1], t) && plain_reaches(starts, targets, n, t, s);
 }
 
-// The exit of each candidate, by its entrance, and n for every other vertex: of the superbubbles with an interior, in a
-// table with a cycle without those that are skipped, the outermost.
-static usize find_candidates(_Bool cyclic, const u32 *starts, const u32 *targets, usize n, const u32 *parents,
+// Whether a table with a cycle is refused or taken.
+enum rings { REFUSED, TAKEN };
+
+// The exit of each candidate, by its entrance, and n for every other vertex: of the superbubbles with an interior, where
+// rings are taken without those that are skipped, the outermost.
+static usize find_candidates(enum rings rings, const u32 *starts, const u32 *targets, usize n, const u32 *parents,
                              u32 *left, u32 *order, u32 *exits) {
     memset(exits, 0, n * sizeof *exits);
     for (u32 s = 0; s < n; s++) {
@@ -367,7 +370,7 @@ static usize find_candidates(_Bool cyclic, const u32 *starts, const u32 *targets
         usize visited;
         if (exits[s] == n) continue;
         if (!search(starts, targets, parents, left, order, s, &t, &visited) || visited < 2 ||
-            (cyclic && is_skipped(starts, targets, n, s, t))) {
+            (rings == TAKEN && is_skipped(starts, targets, n, s, t))) {
             exits[s] = n;
             continue;
         }
@@ -458,9 +461,6 @@ static usize write_table(const u32 *starts, const u32 *targets, usize n, const u
     return at;
 }
 
-// Whether a table with a cycle is refused or taken.
-enum rings { REFUSED, TAKEN };
-
 static u32 fold(enum rings rings, enum choosing by, const u32 *starts, usize starts_len, const u32 *targets, usize m,
                 const u64 *counts, usize counts_len, u32 budget, u32 *starts2, usize starts2_len, u32 *targets2,
                 usize targets2_len, u64 *counts2, usize counts2_len, usize *folded, usize *left_over, usize *edges) {
@@ -471,13 +471,12 @@ static u32 fold(enum rings rings, enum choosing by, const u32 *starts, usize sta
     number = check_counts(counts, counts_len, n);
     if (number != 0) return number;
     if (starts2_len < n + 1 || targets2_len < m || counts2_len < n) return 8;
-    _Bool cyclic = has_cycle(starts, targets, n);
-    if (cyclic && rings == REFUSED) return 9;
+    if (rings == REFUSED && has_cycle(starts, targets, n)) return 9;
     u32 parents[MOST], left[MOST], order[MOST], exits[MOST], next[MOST];
     u64 best[MOST];
     count_parents(targets, m, parents, n);
     memcpy(left, parents, n * sizeof *left);
-    usize found = find_candidates(cyclic, starts, targets, n, parents, left, order, exits);
+    usize found = find_candidates(rings, starts, targets, n, parents, left, order, exits);
     for (usize v = 0; v < n; v++) next[v] = n;
     memcpy(counts2, counts, n * sizeof *counts);
     usize done = 0;

@@ -12,16 +12,10 @@ use Rattle.rule.specs.declared.Rings.{Rings}
 use Rattle.rule.specs.declared.Rings.the-variants.{Refused, Taken}
 use Rattle.folding.specs.Folding.{foldRoom}
 
--- what has to be done with rings to fold a graph: they have to be taken where it has a directed cycle
-abbrev pub Needed : Graph → Rings → Type 0
-Needed E Refused = Cyclic E → ⊥
-Needed E Taken = Cyclic E
-
--- rings are needed and refused
-abbrev pub Lacks : Rings → Rings → Type 0
-Lacks Refused Refused = ⊥
-Lacks Refused Taken = Unit {0}
-Lacks Taken need = ⊥
+-- rings are refused, and a graph has a directed cycle
+abbrev pub Refuses : Rings → Graph → Type 0
+Refuses Refused E = Cyclic E
+Refuses Taken E = ⊥
 
 -- what is handed over: a table with its counts that the way folds, an array with room for the number of every vertex, and room for the result
 pub record FoldRoom (way : Way) (table : Table) (next : List ℕ) (lent : Table) : Type 0 where

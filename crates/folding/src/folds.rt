@@ -1,12 +1,11 @@
-// The fold of a table: checked, its room asked, its cycles looked for, and then written to the second set of slices. Only in a table with a cycle can a superbubble be skipped:
-// one without is folded as where rings are refused, and no walk is made in it.
+// The fold of a table: checked, its room asked, where rings are refused its cycles looked for, and then written to the second set of slices.
 ghost use mathlib.Core.Path.{_≡_};
 ghost use Rattle.table.specs.Verdict.{Says};
 ghost use Rattle.table.specs.Table.{Edge, WellFormed};
 ghost use Rattle.rule.specs.declared.Choosing.the-variants.{Sum, Weakest};
 ghost use Rattle.rule.specs.Way.{plain, ringed, the-fold};
 ghost use Rattle.folding.specs.Folding.{FoldDone, FoldedAt};
-ghost use Rattle.folding.specs.Steps.{Needed, Lacks, FoldRoom};
+ghost use Rattle.folding.specs.Steps.{Refuses, FoldRoom};
 use rule::Choosing;
 use rule::Mode;
 use rule::Rings;
@@ -32,29 +31,16 @@ fn refused(number: u32) -> Folded
     }
 }
 
-// What a fold has to do with rings to fold the table: to take them where it has a directed cycle.
-fn needed(starts: &[u32], targets: &[u32]) -> Rings
+// Whether rings are refused and the table has a directed cycle.
+fn refuses(rings: Rings, starts: &[u32], targets: &[u32]) -> bool
     requires { ⌜ WellFormed (now starts) (now targets) ⌝ }
-    ensures { λ r. ⌜ Needed (Edge (now (starts .entry)) (now (targets .entry))) r ⌝ }
-{
-    let mut colours = [0u8; VERTEX_LIMIT];
-    if cycle::has_cycle(starts, targets, &mut colours) {
-        return Rings::Taken;
-    }
-    Rings::Refused
-}
-
-// Whether rings are needed and refused.
-fn lacks(rings: Rings, need: Rings) -> bool
-    ensures { λ r. ⌜ Says r (Lacks rings need) ⌝ }
+    ensures { λ r. ⌜ Says r (Refuses rings (Edge (now (starts .entry)) (now (targets .entry)))) ⌝ }
 {
     let Rings::Refused = rings else {
         return false;
     };
-    let Rings::Taken = need else {
-        return false;
-    };
-    true
+    let mut colours = [0u8; VERTEX_LIMIT];
+    cycle::has_cycle(starts, targets, &mut colours)
 }
 
 // Folds a table, with a slice that has room for the number of every vertex.
@@ -146,15 +132,12 @@ pub fn fold_by(
         return refused(8);
     }
     let rings = mode.rings;
-    let need = needed(starts, targets);
-    if lacks(rings, need) {
+    if refuses(rings, starts, targets) {
         return refused(9);
     }
-    let by = mode.by;
-    let enough = Mode { rings: need, by };
     let mut next = [0u32; VERTEX_LIMIT];
     fold_in(
-        enough,
+        mode,
         starts,
         targets,
         counts,
@@ -261,9 +244,11 @@ pub fn fold_rings(
         r
         ⌝ }
 {
+    let taken = Rings::Taken;
+    let sum = Choosing::Sum;
     let mode = Mode {
-        rings: Rings::Taken,
-        by: Choosing::Sum,
+        rings: taken,
+        by: sum,
     };
     fold_by(
         mode,
@@ -298,10 +283,9 @@ pub fn fold_rings_weakest(
         r
         ⌝ }
 {
-    let mode = Mode {
-        rings: Rings::Taken,
-        by: Choosing::Weakest,
-    };
+    let rings = Rings::Taken;
+    let weakest = Choosing::Weakest;
+    let mode = Mode { rings, by: weakest };
     fold_by(
         mode,
         starts,

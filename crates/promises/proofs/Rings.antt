@@ -27,7 +27,7 @@ use Rattle.rule.proofs.TheFold.{fold-with-lawful, the-fold-lawful}
 use Rattle.folding.specs.declared.folds.Folded.{Folded}
 use Rattle.folding.specs.Folding.{foldDemands, FoldDone}
 use Rattle.folding.proofs.Demand.{fold-determined}
-use Rattle.folding.proofs.NeedLaws.{done-without-cycle}
+use Rattle.folding.proofs.RingLaws.{done-without-cycle}
 use Rattle.promises.specs.Calls.{FoldCall, CallsInTurn}
 use Rattle.promises.specs.InARow.{numbers}
 use Rattle.promises.proofs.Decided.{edge-decided}

@@ -3,10 +3,12 @@ use mathlib.Core.Path.{refl}
 use native.Mathlib.Omega.{arith}
 use Rattle.table.specs.Table.{Table, edges, SoundTable}
 use Rattle.table.proofs.Accepted.{counted}
-use Rattle.rule.specs.Way.{the-fold}
+use Rattle.table.specs.Verdict.{AllMet}
+use Rattle.rule.specs.Way.{asked-of, the-fold}
+use Rattle.rule.proofs.TheFold.{the-fold-lawful}
 use Rattle.folding.specs.Folding.{foldRoom}
 use Rattle.folding.proofs.VerdictLaws.{refused-by-table, refused-by-room, refused-by-way, fold-taken}
-use Rattle.folding.proofs.NeedLaws.{nothing-lacking, lacking, met-by-need, kind-by-need, folded-by-need}
+use Rattle.folding.proofs.RingLaws.{refused-ring, met-ring}
 use borrow.Author.Needs.{needs}
 use Rattle.folding.proofs.folds.fold_by.Statement.{statement}
 use Rattle.folding.proofs.folds.fold_by.Tie as tie
@@ -18,7 +20,7 @@ entry c = c .before .before .before .before .before .before .before
 abbrev after-check-counted : tie.Else4 → tie.After-check-counted
 after-check-counted c = c .before .before .before .before
 
-abbrev in-else1 : tie.After-needed → tie.Else1
+abbrev in-else1 : tie.After-refuses → tie.Else1
 in-else1 c = c .before .before .before .before
 
 abbrev in-else5 : tie.After-fold-in-arg3 → tie.Else5
@@ -81,11 +83,8 @@ returns-4 c = let st = entry (c .before .before .before .before .before) in
     refused-by-room {table = handed st} {lent = lent st} {answer = c .refused4 .result} (sound (c .before .before .before .before)) (λ room. omega (arith, room .2, c .before .if4 .taken))
     (c .refused4 .ensures)
 
-needed-requires : tie.Need-needed-requires
-needed-requires c κs = sound (c .before .before .before) .well-formed
-
-lacks-requires : tie.Need-lacks-requires
-lacks-requires c κs = search needs
+refuses-requires : tie.Need-refuses-requires
+refuses-requires c κs = sound (c .before .before .before) .well-formed
 
 refused-requires-5 : tie.Need-refused-requires-5
 refused-requires-5 c κs = search needs
@@ -93,24 +92,29 @@ refused-requires-5 c κs = search needs
 returns-5 : tie.Need-returns-5
 returns-5 c =
     let tested = c .before .before in
-    let found = tested .before in
-    let st = entry (after-check-counted (found .before)) in
-    refused-by-way {way = the-fold (st .args .mode)} {table = handed st} {lent = lent st} {answer = c .refused5 .result} (sound (in-else1 found)) 9 (λ e. omega arith)
-    (has-room (found .before))
-    (lacking (st .args .mode .rings) (found .needed .result) (handed st .rows) (found .needed .ensures) (rw (c .before .if5 .taken) at (tested .lacks .ensures))) (c .refused5 .ensures)
+    let st = entry (after-check-counted (tested .before)) in
+    refused-by-way {way = the-fold (st .args .mode)} {table = handed st} {lent = lent st} {answer = c .refused5 .result} (sound (in-else1 tested)) 9 (λ e. omega arith)
+    (has-room (tested .before)) (refused-ring (st .args .mode .rings) (handed st .rows) (rw (c .before .if5 .taken) at (tested .refuses .ensures))) (c .refused5 .ensures)
+
+-- all that is asked behind room is met
+met : (c : tie.Else5) → AllMet (asked-of (entry (after-check-counted (c .before .before)) .args .mode .rings) (handed (entry (after-check-counted (c .before .before))) .rows))
+met c =
+    let st = entry (after-check-counted (c .before .before)) in
+    let tested = c .before .refuses in
+    met-ring (st .args .mode .rings) (handed st .rows) (tested .result) (c .if5 .left) (tested .ensures)
 
 slice-aggregate-fold-in : tie.Need-slice-aggregate-fold-in
 slice-aggregate-fold-in c = search needs
 
 fold-in-requires : tie.Need-fold-in-requires
 fold-in-requires c κs =
-    let found = in-else5 c .before .before in
-    let st = entry (after-check-counted (found .before)) in
+    let tested = in-else5 c .before in
+    let st = entry (after-check-counted (tested .before)) in
     record {
-      counted = sound (in-else1 found);
-      kind = kind-by-need (found .needed .result) (edges (handed st .rows)) (found .needed .ensures);
+      counted = sound (in-else1 tested);
+      kind = the-fold-lawful (st .args .mode) .asked-kind (handed st .rows) (met (in-else5 c));
       next-long = refl;
-      room = has-room (found .before);
+      room = has-room (tested .before);
     }
 
 same-length : tie.Need-same-length
@@ -125,16 +129,11 @@ same-length-3 c = search needs
 returns-6 : tie.Need-returns-6
 returns-6 c =
     let call = after-fold-in c .before in
-    let found = in-else5 call .before .before in
-    let st = entry (after-check-counted (found .before)) in
+    let tested = in-else5 call .before in
+    let st = entry (after-check-counted (tested .before)) in
     let done = after-fold-in c .fold-in in
-    let rings = st .args .mode .rings in
-    let need = found .needed .result in
-    let lacks = in-else5 call .before .lacks in
-    let enough = nothing-lacking rings need (lacks .result) (in-else5 call .if5 .left) (lacks .ensures) in
-    fold-taken {way = the-fold (st .args .mode)} {table = handed st} {lent = lent st} {answer = done .result} (sound (in-else1 found)) (done .ensures .0)
-    (has-room (found .before)) (met-by-need rings need (handed st .rows) (found .needed .ensures) enough)
-    (folded-by-need rings need {table = handed st} {lent = lent st} (found .needed .ensures) enough (done .ensures .1))
+    fold-taken {way = the-fold (st .args .mode)} {table = handed st} {lent = lent st} {answer = done .result} (sound (in-else1 tested)) (done .ensures .0)
+    (has-room (tested .before)) (met (in-else5 call)) (done .ensures .1)
 
 pub fold-by-spec : {M : Type 1} → statement M
 fold-by-spec =
@@ -151,8 +150,7 @@ fold-by-spec =
     returns-3
     refused-requires-4
     returns-4
-    needed-requires
-    lacks-requires
+    refuses-requires
     refused-requires-5
     returns-5
     slice-aggregate-fold-in
