@@ -104,10 +104,8 @@ fn fold_contents(
         r
         ⌝ }
 {
-    let mode = Mode {
-        rings,
-        by: choosing(version),
-    };
+    let by = choosing(version);
+    let mode = Mode { rings, by };
     let folded = folding::fold_by(
         mode,
         starts,

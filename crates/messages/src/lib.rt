@@ -82,7 +82,9 @@ pub fn say_refusal(number: u32) {
         6 => say(b"the counts are not as many as the vertices\n"),
         7 => say(b"the counts sum above 1,099,511,627,775\n"),
         8 => say(b"there is not enough room for the result\n"),
-        9 => say(b"the table has a directed cycle, and a self-loop is one\n"),
+        9 => say(
+            b"the table has a directed cycle, and a self-loop is one; fold --rings takes it\n",
+        ),
         10 => say(b"the image is shorter than 13 bytes, or does not begin with S B T\n"),
         11 => say(b"the image has another version than 1 and 2\n"),
         12 => say(b"the image is longer or shorter than its header says\n"),
