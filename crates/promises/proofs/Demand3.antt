@@ -1,5 +1,5 @@
 -- Demand 3, of all that the contract of fold allows, for any rule that meets `RuleLaws` (docs/PROMISES.md has them in words). It holds for every list of budgets, so for
--- those whose sum is within a single budget's range. Assumes nothing.
+-- those whose sum is a budget. Assumes nothing.
 use Prim.Native.Nat.{ℕ, _≤_}
 use mathlib.Core.Path.{_≡_}
 use mathlib.Core.List.{List}
