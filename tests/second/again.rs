@@ -10,6 +10,7 @@ use crate::parts::Part;
 use crate::programs::{self, SHORT};
 use crate::runs::ProgramRun;
 use crate::self_test;
+use crate::side_by_side;
 use crate::turns::{self, Folds, State, Turns};
 use std::fmt::Display;
 use std::fs;
@@ -99,6 +100,13 @@ fn by_batch(cases: &[Case], case: &Case, operation: &Operation) -> Checks {
         let [looked, loaded] = [0, 1].map(|at| batch::came(&printed[at]));
         let fault = in_a_row::of_load(stream, *room, looked, loaded);
         checks.push(("behind a look at the same image", fault));
+    }
+    let before = case.number.checked_sub(1).map(|before| &cases[before]);
+    let plain = before.filter(|before| side_by_side::are_pair(before, case));
+    if let Some(plain) = plain.and_then(Case::operation) {
+        let printed = batch::ask(&[plain, operation]);
+        let [due, came] = [0, 1].map(|at| batch::came(&printed[at]));
+        checks.push(("beside the fold that refuses cycles", side_by_side::fault(due, came)));
     }
     checks
 }

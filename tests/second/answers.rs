@@ -4,6 +4,7 @@
 
 use crate::count::Fault;
 use crate::fold::{self, Folded};
+use crate::foldings::{Folding, Rings};
 use crate::image::{self, Content, Room, SLICES};
 use crate::operations::Operation::{self, *};
 use crate::operations::MOST_ROOM;
@@ -68,9 +69,9 @@ impl Operation {
                     if number == 0 { (way.judge)(table, *s as usize, *t as usize) } else { None };
                 judge(number, found.map(|superbubble| superbubble.all.len()))
             }
-            Fold { version, budget, room, table } => {
-                let folded = (number == 0).then(|| fold::fold(way, *version, table, *budget));
-                fold(*version, number, folded.unwrap_or_default(), *room)
+            Fold { folding, budget, room, table } => {
+                let folded = (number == 0).then(|| fold::fold(way, *folding, table, *budget));
+                fold(*folding, number, folded.unwrap_or_default(), *room)
             }
         }
     }
@@ -79,7 +80,9 @@ impl Operation {
     /// there.
     pub fn cycle_tested(&self, answer: &[u8]) -> Option<(&Table, bool)> {
         match (self, &numbers_in_first_line(answer)[..]) {
-            (Fold { table, .. }, [number @ (0 | 9), ..]) => Some((table, *number == 9)),
+            (Fold { folding, table, .. }, [number @ (0 | 9), ..]) => {
+                (folding.rings == Rings::Refused).then_some((table, *number == 9))
+            }
             _ => None,
         }
     }
@@ -194,11 +197,11 @@ pub fn judge(number: u32, size: Option<usize>) -> Vec<u8> {
     format!("judge {number} {} {}\n", size.is_some() as u32, size.unwrap_or(0)).into_bytes()
 }
 
-/// The answer to a question to fold by the fold of a version.
-pub fn fold(version: Version, number: u32, folded: Folded, room: Room) -> Vec<u8> {
+/// The answer to a question to fold.
+pub fn fold(folding: Folding, number: u32, folded: Folded, room: Room) -> Vec<u8> {
     let Folded { table, folded, left } = folded;
     let m = table.targets.len();
-    let first_line = format!("{} {number} {folded} {left} {m}\n", version.fold());
+    let first_line = format!("{} {number} {folded} {left} {m}\n", folding.name());
     with_slices(first_line, Content { table, lengths: None }, room)
 }
 

@@ -58,8 +58,8 @@ pub fn came(printed: &Printed) -> &[u8] {
 
 /// Folds tables, whatever comes of them.
 pub fn fold(questions: &[Question]) -> Vec<Result<Folded, String>> {
-    let operation = |&(version, table, budget): &Question| {
-        Operation::fold_exactly(version, budget, table.clone())
+    let operation = |&(folding, table, budget): &Question| {
+        Operation::fold_exactly(folding, budget, table.clone())
     };
     let operations: Vec<Operation> = questions.iter().map(operation).collect();
     let printed = ask(&operations.iter().collect::<Vec<_>>());

@@ -3,6 +3,7 @@
 
 use crate::count::{Count, Fault};
 use crate::damages;
+use crate::foldings::Folding;
 use crate::graphs::{self, TWELVE};
 use crate::image::{self, Content, Kind, Room, ROOMS};
 use crate::limits;
@@ -127,13 +128,18 @@ pub fn all(seed: u64) -> Vec<Case> {
     cases.noise();
     cases.superbubbles();
     for version in VERSIONS {
-        cases.folds(version);
-        cases.cycles(version);
-        cases.shares(version);
+        let folding = Folding::plain(version);
+        cases.folds(folding);
+        cases.cycles(folding);
+        cases.shares(folding);
     }
     cases.weakest();
+    VERSIONS.into_iter().for_each(|version| cases.rings(version));
     cases.programs();
-    VERSIONS.into_iter().for_each(|version| cases.folds_in_turn(version));
+    for version in VERSIONS {
+        cases.folds_in_turn(Folding::plain(version));
+        cases.rings_in_turn(Folding::of_rings(version));
+    }
     cases.list
 }
 
@@ -143,7 +149,7 @@ pub fn answers(cases: &[Case]) -> Vec<Vec<u8>> {
 }
 
 /// The cases so far. The makers stand here and in superbubble_cases.rs, fold_cases.rs, sharing_cases.rs,
-/// weakest_cases.rs and program_cases.rs.
+/// weakest_cases.rs, ring_cases.rs and program_cases.rs.
 pub struct Cases {
     pub seed: u64,
     list: Vec<Case>,

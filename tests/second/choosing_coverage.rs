@@ -8,6 +8,7 @@ use crate::count::Fault;
 use crate::coverage::{met, too_few};
 use crate::definition;
 use crate::fold::Chosen;
+use crate::foldings::Folding;
 use crate::parallel;
 use crate::sharing_coverage::Fold;
 use crate::table::Table;
@@ -19,15 +20,20 @@ const MOST_PATHS: usize = 1_000;
 /// How many superbubbles of large tables are due at least, and for each wrong rule.
 const OF_LARGE: usize = 1_000;
 const OF_WRONG_RULE: usize = 300;
+const OF_WRONG_RULE_IN_RINGS: usize = 100;
 
-pub fn check(folds: &[Fold]) -> Vec<(String, Fault)> {
+/// Holds the folds of one kind to it.
+pub fn check(folding: Folding, folds: &[Fold]) -> Vec<(String, Fault)> {
     let folds: Vec<&Fold> = folds.iter().collect();
-    let choices = parallel::each(&folds, Choice::all_of).into_iter().flatten();
-    let (of_two, of_one): (Vec<Choice>, Vec<Choice>) =
-        choices.partition(|choice| choice.version == Version::Two);
-    let mut checks = vec![by_all_paths(Version::One, &of_one), by_all_paths(Version::Two, &of_two)];
-    checks.extend(met("superbubbles folded by the weakest", &of_two, &MET));
-    checks.extend(wrong_rules(&of_two));
+    let choices: Vec<Choice> =
+        parallel::each(&folds, Choice::all_of).into_iter().flatten().collect();
+    let mut checks = vec![by_all_paths(folding, &choices)];
+    if folding == Folding::plain(Version::Two) {
+        checks.extend(met("superbubbles folded by the weakest", &choices, &MET));
+    }
+    if folding.version == Version::Two {
+        checks.extend(wrong_rules(folding, &choices));
+    }
     checks
 }
 
@@ -42,7 +48,7 @@ struct Choice<'a> {
 impl Choice<'_> {
     /// Those of a fold whose paths are not too many.
     fn all_of<'a>(fold: &&'a Fold) -> Vec<Choice<'a>> {
-        let (version, table) = (fold.version, fold.table);
+        let (version, table) = (fold.folding.version, fold.table);
         let choice = |chosen: &'a Chosen| {
             let paths = definition::paths(table, &chosen.superbubble, MOST_PATHS);
             (paths.len() <= MOST_PATHS).then_some(Choice { version, table, chosen, paths })
@@ -104,15 +110,16 @@ impl Choice<'_> {
 }
 
 /// Whether each kept path is that of the definition; some of large tables must be among them.
-fn by_all_paths(version: Version, choices: &[Choice]) -> (String, Fault) {
+fn by_all_paths(folding: Folding, choices: &[Choice]) -> (String, Fault) {
     let large = choices.iter().filter(|choice| choice.table.counts.len() > 10).count();
-    let name = version.fold();
+    let name = folding.name();
     println!(
         "{name}: {} kept paths laid beside all others, {large} in tables of more than 10",
         choices.len()
     );
-    let kept =
-        |choice: &Choice| definition::kept(version, choice.table, &choice.chosen.superbubble);
+    let kept = |choice: &Choice| {
+        definition::kept(folding.version, choice.table, &choice.chosen.superbubble)
+    };
     let same: Vec<bool> = parallel::each(choices, |choice| kept(choice) == choice.chosen.kept);
     let other = same.iter().filter(|&&same| !same).count();
     let fault = (other > 0).then(|| format!("{other} are other ones"));
@@ -175,15 +182,17 @@ const MET: [Met; 22] = [
 ];
 
 /// Each wrong rule keeps other paths.
-fn wrong_rules(choices: &[Choice]) -> Vec<(String, Fault)> {
+fn wrong_rules(folding: Folding, choices: &[Choice]) -> Vec<(String, Fault)> {
     let mut checks = Vec::new();
+    let name = folding.name();
+    let fewest = if folding.takes_rings() { OF_WRONG_RULE_IN_RINGS } else { OF_WRONG_RULE };
     for (rule, choose) in WRONG {
         let other = |choice: &Choice| choose(choice.table, &choice.chosen.superbubble);
         let told = parallel::each(choices, |choice| other(choice) != choice.chosen.kept);
         let told = told.into_iter().filter(|&told| told).count();
-        println!("fold_weakest: {told} that tell a wrong rule of choosing: {rule}");
-        let title = format!("fold_weakest: a wrong rule of choosing is told: {rule}");
-        checks.push((title, too_few(told, OF_WRONG_RULE)));
+        println!("{name}: {told} that tell a wrong rule of choosing: {rule}");
+        let title = format!("{name}: a wrong rule of choosing is told: {rule}");
+        checks.push((title, too_few(told, fewest)));
     }
     checks
 }

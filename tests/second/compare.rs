@@ -13,6 +13,7 @@ use crate::parallel;
 use crate::programs::{LONG, SHORT};
 use crate::runs::{ProgramRun, PROGRAMS};
 use crate::self_test;
+use crate::side_by_side;
 use std::path::{Path, PathBuf};
 
 /// The folder of a run of a program that is run alone.
@@ -62,7 +63,9 @@ fn ask_batch(cases: &[Case], answers: &[Vec<u8>], count: &mut Count) {
     });
     cases::judge(checks.collect(), count);
     let came = asked.iter().zip(&printed).map(|(&(case, _, _), came)| (case, batch::came(came)));
-    cases::judge(in_a_row::checks(came), count);
+    let came: Vec<(&Case, &[u8])> = came.collect();
+    cases::judge(in_a_row::checks(came.iter().copied()), count);
+    cases::judge(side_by_side::checks(&came), count);
     cases::judge(cases::in_turn(cases, &batch::fold), count);
 }
 

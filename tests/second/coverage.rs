@@ -7,8 +7,10 @@
 use crate::answers::numbers_in_first_line;
 use crate::cases::Case;
 use crate::count::Fault;
+use crate::foldings::Folding;
 use crate::image::{self, Content, Room, A_LENGTH_LESS, HEADER, ROOMS, SLICES};
 use crate::operations::{exact_room, Operation, OPERATIONS};
+use crate::ring_coverage;
 use crate::sharing_coverage;
 use crate::table::{number_given, Table, MOST_EDGES};
 use crate::versions::{Version, VERSIONS};
@@ -33,13 +35,15 @@ pub fn check(cases: &[Case], answers: &[Vec<u8>]) -> Vec<(String, Fault)> {
         checks.push((format!("{operation}: {what}"), too_few(cases, fewest)));
     }
     for version in VERSIONS {
-        let of_version = cases.iter().zip(answers).filter_map(|one| Fold::of(version, one));
+        let fold = Folding::plain(version).name();
+        let of_version = cases.iter().zip(answers).filter_map(|one| Fold::of(fold, one));
         let folds: Vec<Fold> = of_version.collect();
-        checks.extend(every_small_graph(version, &folds));
-        checks.extend(met(version.fold(), &folds, &MET));
-        checks.extend(met(version.fold(), &folds, &[self_loops_alone(version)]));
+        checks.extend(every_small_graph(version, fold, &folds));
+        checks.extend(met(fold, &folds, &MET));
+        checks.extend(met(fold, &folds, &[self_loops_alone(version)]));
     }
     checks.extend(sharing_coverage::check(cases, answers));
+    checks.extend(ring_coverage::check(cases, answers));
     checks
 }
 
@@ -50,7 +54,7 @@ pub fn too_few(cases: usize, fewest: usize) -> Fault {
 /// By the numbers in the first line of an answer: what some cases must reach, and how many at least.
 type Reached = (&'static str, &'static str, usize, fn(&[usize]) -> bool);
 
-const REACHED: [Reached; 23] = [
+const REACHED: [Reached; 31] = [
     ("look", "that accept, and whose load does", 400, |line| line[0] == 0 && line[4] == 0),
     ("look", "that accept version 1", 200, |line| line[1] == 1),
     ("look", "that accept version 2", 200, |line| line[1] == 2),
@@ -78,6 +82,14 @@ const REACHED: [Reached; 23] = [
     ("fold_weakest", "that fold two or more", 500, |line| line[1] >= 2),
     ("fold_weakest", "that fold some and leave some", 300, |line| line[1] > 0 && line[2] > 0),
     ("fold_weakest", "that find nothing to fold", 500, |line| line[..3] == [0, 0, 0]),
+    ("fold_rings", "that fold one", 2_000, |line| line[1] == 1),
+    ("fold_rings", "that fold two or more", 500, |line| line[1] >= 2),
+    ("fold_rings", "that fold some and leave some", 300, |line| line[1] > 0 && line[2] > 0),
+    ("fold_rings", "that find nothing to fold", 500, |line| line[..3] == [0, 0, 0]),
+    ("fold_rings_weakest", "that fold one", 2_000, |line| line[1] == 1),
+    ("fold_rings_weakest", "that fold two or more", 500, |line| line[1] >= 2),
+    ("fold_rings_weakest", "that fold some and leave some", 300, |line| line[1] > 0 && line[2] > 0),
+    ("fold_rings_weakest", "that find nothing to fold", 500, |line| line[..3] == [0, 0, 0]),
 ];
 
 fn numbers(cases: &[Case]) -> Vec<(String, Fault)> {
@@ -354,8 +366,8 @@ struct Fold<'a> {
 }
 
 impl Fold<'_> {
-    fn of<'a>(version: Version, (case, answer): (&'a Case, &Vec<u8>)) -> Option<Fold<'a>> {
-        let operation = case.operation().filter(|operation| operation.name() == version.fold())?;
+    fn of<'a>(fold: &str, (case, answer): (&'a Case, &Vec<u8>)) -> Option<Fold<'a>> {
+        let operation = case.operation().filter(|operation| operation.name() == fold)?;
         let (table, is_refused) = operation.cycle_tested(answer)?;
         Some(Fold { table, is_refused, walk: walk::over(table) })
     }
@@ -394,13 +406,12 @@ const WITHOUT_CYCLE: [usize; 5] = [1, 1, 3, 25, 543];
 
 /// Every graph of so few vertices is folded: without a cycle it is accepted, and else refused. In
 /// version 2 these are graphs of up to three.
-fn every_small_graph(version: Version, folds: &[Fold]) -> Vec<(String, Fault)> {
+fn every_small_graph(version: Version, fold: &str, folds: &[Fold]) -> Vec<(String, Fault)> {
     let mut checks = Vec::new();
     let all = match version {
         Version::One => &WITHOUT_CYCLE[..],
         Version::Two => &WITHOUT_CYCLE[..4],
     };
-    let fold = version.fold();
     for (n, &without) in all.iter().enumerate() {
         let graphs = |is_refused| {
             let such = folds.iter().filter(|fold| fold.vertices() == n);

@@ -8,7 +8,7 @@ use crate::table::Table;
 use crate::versions::Version;
 use std::cmp::Reverse;
 
-pub const WAY: Way = Way { superbubbles, judge, kept, share: sharing::dealt, has_cycle };
+pub const WAY: Way = Way { superbubbles, judge, kept, share: sharing::dealt, has_cycle, reaches };
 
 /// A set of vertices: for each whether it belongs to it.
 type Set = Vec<bool>;
@@ -48,8 +48,12 @@ fn closed(
 
 /// Whether some edge leads back: its end reaches its beginning.
 fn have_cycle(n: usize, edges: &[Edge]) -> bool {
-    let reached = |first| closed(n, edges, first, |set, (from, to)| set[from].then_some(to));
-    edges.iter().any(|&(from, to)| reached(to)[from])
+    edges.iter().any(|&(from, to)| reached(n, edges, to)[from])
+}
+
+/// The vertices with a path from this one.
+pub fn reached(n: usize, edges: &[Edge], first: usize) -> Set {
+    closed(n, edges, first, |set, (from, to)| set[from].then_some(to))
 }
 
 /// U of a pair that meets reachability, matching and acyclicity.
@@ -131,4 +135,8 @@ fn append_paths(
 
 fn has_cycle(table: &Table) -> bool {
     have_cycle(table.starts.len() - 1, &table.edges())
+}
+
+fn reaches(table: &Table, from: usize, to: usize) -> bool {
+    reached(table.starts.len() - 1, &table.edges(), from)[to]
 }

@@ -1,8 +1,9 @@
-//! The examples: the twelve graphs A to L of the rules and the worked folds of a shared arm and by the
-//! weakest as images, one file each. The last is of version 2, the others of version 1.
+//! The examples: the twelve graphs A to L of the rules and the worked folds of a shared arm, of a ring and
+//! by the weakest as images, one file each. The last is of version 2, the others of version 1.
 
 use crate::count::Fault;
-use crate::graphs::{LENGTHS_OF_WEAKEST, SHARED, TWELVE, WEAKEST};
+use crate::foldings::Rings;
+use crate::graphs::{Graph, LENGTHS_OF_WEAKEST, RING, SHARED, TWELVE, WEAKEST};
 use crate::image;
 use crate::runs::ProgramRun;
 use crate::sheet;
@@ -12,7 +13,7 @@ use std::path::Path;
 
 /// The name of each file, and the image that it has.
 fn all() -> Vec<(String, Vec<u8>)> {
-    let of_one = TWELVE.iter().chain([&SHARED]);
+    let of_one = TWELVE.iter().chain([&SHARED, &RING]);
     let mut all: Vec<(&str, Vec<u8>)> =
         of_one.map(|graph| (graph.name, image::of_table(&graph.table()))).collect();
     all.push((WEAKEST.name, image::with_lengths(&WEAKEST.table(), &LENGTHS_OF_WEAKEST)));
@@ -41,17 +42,21 @@ pub fn check() -> Vec<(String, Fault)> {
     let files = fs::read_dir(folder).map_or(0, |entries| entries.count());
     let fault = (files != all.len()).then(|| format!("it has {files} files"));
     checks.push(("examples has these files and no other".to_string(), fault));
-    let lines = on_the_sheet();
-    let fault = (!sheet::has(&lines)).then(|| format!("it does not have these lines:\n{lines}"));
-    checks.push(("the sheet shows the fold of a shared arm".to_string(), fault));
+    for (graph, rings, budget) in [(&SHARED, Rings::Refused, 1), (&RING, Rings::Taken, u32::MAX)] {
+        let lines = on_the_sheet(graph, rings, budget);
+        let fault =
+            (!sheet::has(&lines)).then(|| format!("it does not have these lines:\n{lines}"));
+        checks.push((format!("the sheet shows the fold of {}", graph.name), fault));
+    }
     checks
 }
 
-/// The fold of a shared arm as the sheet shows it: the commands, and what is printed.
-fn on_the_sheet() -> String {
-    let (input, output) = ("examples/shared.sbt", "folded.sbt");
-    let before = vec![(input.to_string(), image::of_table(&SHARED.table()))];
-    let fold = ProgramRun::fold(1, input, output, before);
+/// A fold as the sheet shows it: the commands, and what is printed.
+fn on_the_sheet(graph: &Graph, rings: Rings, budget: u32) -> String {
+    let (input, output) = (format!("examples/{}.sbt", graph.name), "folded.sbt");
+    let before = vec![(input.clone(), image::of_table(&graph.table()))];
+    let word = budget.to_string();
+    let fold = ProgramRun::fold_by_word(rings, &word, budget, &input, output, before);
     let (_, folded) = fold.after.iter().find(|(name, _)| name == output).unwrap();
     let lines = [
         format!("./gohardim {}\n", fold.command()),

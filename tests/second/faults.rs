@@ -58,10 +58,11 @@ fn of_fold(count: &mut Count) -> Judged {
         Scene::in_is_out(program),
         Scene::after_a_stop(program),
         Scene::refused(program),
+        Scene::of_rings(program),
     ];
-    let [missing, old, same, stopped, refused] = scenes.clone().map(Scene::rehearsed);
-    let all = [&missing?, &old?, &same?, &stopped?, &refused?];
-    let [missing, old, same, _, refused] = all;
+    let [missing, old, same, stopped, refused, rings] = scenes.clone().map(Scene::rehearsed);
+    let all = [&missing?, &old?, &same?, &stopped?, &refused?, &rings?];
+    let [missing, old, same, _, refused, _] = all;
     let failing = [missing, old, same, refused];
 
     judge_all("folds that nothing befalls", for_each(&all, unhindered), count);

@@ -1,6 +1,7 @@
-//! The fold of the rules (docs/RULES.md, Fold) in both versions, over the table handed in: its
-//! candidates, its kept paths, its counts.
+//! The fold of the rules (docs/RULES.md, Fold) in both versions, with cycles refused or taken, over the
+//! table handed in: its candidates, its kept paths, its counts.
 
+use crate::foldings::Folding;
 use crate::graphs::{self, Edge};
 use crate::parts::Part;
 use crate::sharing::Share;
@@ -64,20 +65,20 @@ impl Chosen {
     }
 }
 
-/// Folds a well-formed table without a cycle by the fold of a version.
-pub fn fold(way: &Way, version: Version, table: &Table, budget: u32) -> Folded {
-    let chosen = chosen(way, version, table, budget);
+/// Folds a well-formed table, which has no cycle where the fold refuses one.
+pub fn fold(way: &Way, folding: Folding, table: &Table, budget: u32) -> Folded {
+    let chosen = chosen(way, folding, table, budget);
     let mut edges = table.edges();
     chosen.iter().for_each(|one| one.remove_from(&mut edges));
     let table = graphs::of_edges(&edges, counts(table, &chosen, way.share));
-    let left = candidates(way, &table).len();
+    let left = candidates(way, folding.rings, &table).len();
     Folded { table, folded: chosen.len(), left }
 }
 
 /// The candidates that are folded.
-pub fn chosen(way: &Way, version: Version, table: &Table, budget: u32) -> Vec<Chosen> {
-    let candidates = candidates(way, table).into_iter().take(budget as usize);
-    candidates.map(|superbubble| Chosen::of(way, version, table, superbubble)).collect()
+pub fn chosen(way: &Way, folding: Folding, table: &Table, budget: u32) -> Vec<Chosen> {
+    let candidates = candidates(way, folding.rings, table).into_iter().take(budget as usize);
+    candidates.map(|superbubble| Chosen::of(way, folding.version, table, superbubble)).collect()
 }
 
 /// The counts after a fold of these, where dropped reads are shared by this rule. A kept bare edge takes

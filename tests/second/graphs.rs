@@ -66,6 +66,31 @@ pub const WEAKEST: Graph = graph(
 );
 pub const LENGTHS_OF_WEAKEST: [u16; 5] = [100, 200, 300, 400, 500];
 
+/// A ring: 0,2 has a bare edge and its exit reaches its entrance, 2,6 has none.
+pub const RING: Graph = graph(
+    "ring",
+    &[(0, 1), (0, 2), (1, 2), (2, 3), (2, 4), (3, 5), (4, 6), (5, 6), (6, 0)],
+    &[0, 8, 0, 1, 5, 9, 0],
+    &[(0, 2), (2, 6), (3, 5), (6, 0)],
+);
+
+/// A superbubble with a bare edge, 2,5, whose exit reaches its entrance, and inside it 4,3: the fold of
+/// rings skips the first and folds the second, by which the set of the first shrinks.
+pub const SHRINKING: Graph = graph(
+    "shrinking",
+    &[(0, 3), (1, 3), (2, 4), (2, 5), (3, 5), (4, 0), (4, 1), (5, 6), (6, 2)],
+    &[4, 1, 9, 2, 3, 9, 9],
+    &[(2, 5), (4, 3), (5, 6), (6, 2)],
+);
+
+/// Another one with a bare edge, 0,2, and nothing else: without this edge 2,0 would be a superbubble.
+pub const BREAKING: Graph = graph(
+    "breaking",
+    &[(0, 1), (0, 2), (1, 2), (2, 3), (2, 4), (3, 0), (4, 0)],
+    &[1, 2, 3, 4, 5],
+    &[(0, 2)],
+);
+
 impl Graph {
     pub fn table(&self) -> Table {
         of_edges(self.edges, self.counts.to_vec())

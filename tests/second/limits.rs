@@ -1,13 +1,14 @@
 //! Cases that the rules name themselves (docs/RULES.md, Limits), limits and one past them, with answers
 //! written by hand: they hold the second program to the rules as well.
 
+use crate::foldings::{Folding, FOLDINGS};
 use crate::graphs::{self, lettered};
 use crate::image::{self, Content, Room};
 use crate::operations::Operation;
 use crate::random::Random;
 use crate::shapes::{self, Shape};
 use crate::table::{Table, LARGEST_SUM, MOST_EDGES, MOST_VERTICES};
-use crate::versions::{Version, VERSIONS};
+use crate::versions::Version;
 
 /// The first line of the answer, the case in words, and what is asked.
 type Limit = (String, &'static str, Operation);
@@ -33,10 +34,10 @@ pub fn all(seed: u64) -> Vec<Limit> {
     lines.extend(judges(&too_wide));
     let as_it_is = |(line, name, operation): Line| (line.to_string(), name, operation);
     let mut all: Vec<Limit> = lines.into_iter().map(as_it_is).collect();
-    for version in VERSIONS {
-        let folds = folds(version, &too_wide).into_iter().chain(cycles(version));
+    for folding in FOLDINGS {
+        let folds = folds(folding, &too_wide).into_iter().chain(cycles(folding));
         let with_name =
-            |(line, name, operation): Line| (format!("{} {line}", version.fold()), name, operation);
+            |(line, name, operation): Line| (format!("{} {line}", folding.name()), name, operation);
         all.extend(folds.map(with_name));
     }
     all
@@ -356,21 +357,23 @@ fn judges(too_wide: &Table) -> Vec<Line> {
 }
 
 /// The lines begin behind the name of the fold.
-fn folds(version: Version, too_wide: &Table) -> Vec<Line> {
+fn folds(folding: Folding, too_wide: &Table) -> Vec<Line> {
     let fold = |budget, room, table: &Table| {
         let table = table.clone();
-        Operation::Fold { version, budget, room, table }
+        Operation::Fold { folding, budget, room, table }
     };
-    let of = |budget, table: &Table| Operation::fold_exactly(version, budget, table.clone());
+    let of = |budget, table: &Table| Operation::fold_exactly(folding, budget, table.clone());
     let room = |starts, targets, counts| Room { starts, targets, counts, lengths: 0 };
     let (a, f, j) = (lettered("A").table(), lettered("F").table(), graphs::j());
     let one_too_large = Table { counts: vec![LARGEST_SUM, 0, 0, 0, 1, 0, 0], ..j.clone() };
     let largest_sum = Table { counts: vec![0, 1, LARGEST_SUM - 1, 0, 0, 0, 0], ..j.clone() };
     // in version 1 down on the entrances and up on the exits; in version 2 all arms are worth the same
-    let [one_nest, all_nests, but_one] = match version {
+    let [one_nest, all_nests, but_one] = match folding.version {
         Version::One => ["0 1 0 40", "0 34 0 1360", "0 33 1 1399"],
         Version::Two => ["0 1 0 2", "0 34 0 68", "0 33 1 145"],
     };
+    // a table with a cycle is refused, or it is given back with so many edges
+    let [three, one, most] = cyclic(folding, ["0 0 0 3", "0 0 0 1", "0 0 0 2048"]);
     let nests = shapes::nests(20, 34).counted(1);
     let bubbles = shapes::nests(1, 1_023).counted(5);
     vec![
@@ -381,16 +384,16 @@ fn folds(version: Version, too_wide: &Table) -> Vec<Line> {
         ("8 0 0 0", "J, counts too short", fold(1, room(8, 8, 6), &j)),
         ("0 1 0 2", "J, the most room", fold(1, room(4_096, 16_384, 4_096), &j)),
         ("0 0 0 0", "A", fold(1, room(1, 0, 0), &a)),
-        ("9 0 0 0", "F", of(1, &f)),
-        ("9 0 0 0", "F, budget 0", of(0, &f)),
+        (three, "F", of(1, &f)),
+        (three, "F, budget 0", of(0, &f)),
         ("8 0 0 0", "F, counts too short", fold(1, room(4, 3, 2), &f)),
-        ("9 0 0 0", "a self-loop", of(1, &shapes::ring(1).counted(0))),
+        (one, "a self-loop", of(1, &shapes::ring(1).counted(0))),
         ("7 0 0 0", "J, count sum one too large", of(1, &one_too_large)),
         // all reads stand on the kept path
         ("0 1 0 4", "J, the largest count sum", of(1, &largest_sum)),
         ("2 0 0 0", "m = 8,193", fold(1, room(4_096, 16_384, 4_096), too_wide)),
         ("0 0 0 2047", "a chain of 2,048", of(u32::MAX, &shapes::chain(2_048).counted(1))),
-        ("9 0 0 0", "a cycle of 2,048", of(1, &shapes::ring(2_048).counted(1))),
+        (most, "a cycle of 2,048", of(1, &shapes::ring(2_048).counted(1))),
         ("0 1 0 2", "a fan of 2,048", of(1, &shapes::fan(2_048).counted(1))),
         // one vertex of each of the 510 layers, and six edges behind the exit
         ("0 1 0 517", "n = 2,048, m = 8,192", of(1, &shapes::ladder().counted(1))),
@@ -401,30 +404,37 @@ fn folds(version: Version, too_wide: &Table) -> Vec<Line> {
     ]
 }
 
+/// The lines of tables with a cycle, where the fold takes these.
+fn cyclic<const N: usize>(folding: Folding, lines: [&'static str; N]) -> [&'static str; N] {
+    lines.map(|line| if folding.takes_rings() { line } else { "9 0 0 0" })
+}
+
 /// For the cycle test: deep paths, long rows and self-loops, folded with budget 1. The lines begin
 /// behind the name of the fold.
-fn cycles(version: Version) -> Vec<Line> {
-    let fold = |shape: Shape| Operation::fold_exactly(version, 1, shape.counted(1));
+fn cycles(folding: Folding) -> Vec<Line> {
+    let fold = |shape: Shape| Operation::fold_exactly(folding, 1, shape.counted(1));
     let (chain, row) = (shapes::chain(2_048), shapes::wide(2_048, 1));
     let no_edges = Shape { n: 2_048, edges: vec![] };
     let back = shapes::band(2_048, 8_191).and((2_047, 0));
+    // no superbubble of these has an interior
+    let [one, one_more, most] = cyclic(folding, ["0 0 0 1", "0 0 0 2048", "0 0 0 8192"]);
     vec![
         ("0 0 0 2047", "a chain of 2,048 backwards", fold(chain.numbered_backwards())),
-        ("9 0 0 0", "a chain and 2047>2046", fold(chain.and((2_047, 2_046)))),
-        ("9 0 0 0", "a chain and 2047>2047", fold(chain.and((2_047, 2_047)))),
-        ("9 0 0 0", "a chain and 1>0", fold(chain.and((1, 0)))),
-        ("9 0 0 0", "a chain and 0>0", fold(chain.and((0, 0)))),
+        (one_more, "a chain and 2047>2046", fold(chain.and((2_047, 2_046)))),
+        (one_more, "a chain and 2047>2047", fold(chain.and((2_047, 2_047)))),
+        (one_more, "a chain and 1>0", fold(chain.and((1, 0)))),
+        (one_more, "a chain and 0>0", fold(chain.and((0, 0)))),
         // the chain is kept, and the bare edge goes
         ("0 1 0 2047", "a chain and 0>2047", fold(chain.and((0, 2_047)))),
         ("0 0 0 2047", "a row of 2,047", fold(row.clone())),
-        ("9 0 0 0", "a row of 2,047 and 2047>0", fold(row.and((2_047, 0)))),
-        ("9 0 0 0", "a row of 2,048, itself among it", fold(row.and((0, 0)))),
+        (one_more, "a row of 2,047 and 2047>0", fold(row.and((2_047, 0)))),
+        (one_more, "a row of 2,048, itself among it", fold(row.and((0, 0)))),
         ("0 0 0 8182", "rows of 2,047 to 2,044", fold(shapes::wide(2_048, 4))),
-        ("9 0 0 0", "2,048 vertices and 2047>2047", fold(no_edges.and((2_047, 2_047)))),
+        (one, "2,048 vertices and 2047>2047", fold(no_edges.and((2_047, 2_047)))),
         ("0 1 681 2726", "682 diamonds", fold(shapes::diamonds(682))),
         // the path over every vertex is kept
         ("0 1 0 2047", "a band, m = 8,192", fold(shapes::band(2_048, 8_192))),
-        ("9 0 0 0", "a band and 2047>0, m = 8,192", fold(back)),
+        (most, "a band and 2047>0, m = 8,192", fold(back)),
     ]
 }
 

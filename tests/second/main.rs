@@ -4,22 +4,22 @@
 //!
 //! - table.rs, versions.rs, image.rs: the rules and the numbers
 //! - superbubbles.rs, definition.rs, quick.rs: superbubbles and kept paths in two ways
-//! - fold.rs, sharing.rs, choosing.rs: the folds, how they share dropped reads, and wrong rules by which
-//!   they could choose a path
+//! - foldings.rs, fold.rs, sharing.rs, choosing.rs, skipping.rs: the folds, how they share dropped reads,
+//!   and wrong rules by which they could choose a path or a candidate
 //! - walk.rs: one more way to find a cycle, and what it meets
 //! - graphs.rs, shapes.rs, damages.rs: tables and images, good and bad
 //! - limits.rs, worked.rs: cases with answers written by hand
-//! - cases.rs, superbubble_cases.rs, fold_cases.rs, sharing_cases.rs, weakest_cases.rs,
+//! - cases.rs, superbubble_cases.rs, fold_cases.rs, sharing_cases.rs, weakest_cases.rs, ring_cases.rs,
 //!   program_cases.rs: all that is asked
 //! - operations.rs, answers.rs, runs.rs: how it is asked, and the answers that are due
-//! - turns.rs, in_a_row.rs: answers that are held to each other
+//! - turns.rs, in_a_row.rs, side_by_side.rs: answers that are held to each other
 //! - parts.rs: questions and answers taken apart, and where two answers differ first
 //! - programs.rs, batch.rs, parallel.rs: the runs of the programs
 //! - sheet.rs, messages.rs: the words that the programs say
 //! - launcher.rs, launcher/: the script `gohardim`
 //! - faults.rs, faults/: what may befall the programs, system call by system call
-//! - compare.rs, self_test.rs, coverage.rs, sharing_coverage.rs, choosing_coverage.rs, examples.rs,
-//!   count.rs: the comparison, and the checks that need no program
+//! - compare.rs, self_test.rs, coverage.rs, sharing_coverage.rs, choosing_coverage.rs, ring_coverage.rs,
+//!   examples.rs, count.rs: the comparison, and the checks that need no program
 //! - again.rs: one case again, by its number
 
 mod again;
@@ -37,6 +37,7 @@ mod examples;
 mod faults;
 mod fold;
 mod fold_cases;
+mod foldings;
 mod graphs;
 mod image;
 mod in_a_row;
@@ -50,6 +51,8 @@ mod program_cases;
 mod programs;
 mod quick;
 mod random;
+mod ring_cases;
+mod ring_coverage;
 mod runs;
 mod self_test;
 mod shapes;
@@ -57,6 +60,8 @@ mod sharing;
 mod sharing_cases;
 mod sharing_coverage;
 mod sheet;
+mod side_by_side;
+mod skipping;
 mod superbubble_cases;
 mod superbubbles;
 mod table;

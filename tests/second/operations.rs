@@ -4,6 +4,7 @@
 //! A question is one byte, the operation; the length of the body, 32 bits; and the body. All numbers
 //! are little-endian. What is asked of a table without its counts is handed none.
 
+use crate::foldings::{Folding, Rings};
 use crate::image::{self, Content, Room};
 use crate::parts::Part;
 use crate::superbubbles;
@@ -34,14 +35,14 @@ pub enum Operation {
     List { room: usize, table: Table },
     /// Judging one pair.
     Judge { pair: (u32, u32), table: Table },
-    /// Folding by the fold of a version into slices of so many numbers.
-    Fold { version: Version, budget: u32, room: Room, table: Table },
+    /// Folding by one of the folds into slices of so many numbers.
+    Fold { folding: Folding, budget: u32, room: Room, table: Table },
 }
 
 use Operation::*;
 
 /// An operation's name, and the numbers other than 0 that it can give, in the order in which it does.
-pub const OPERATIONS: [(&str, &[u32]); 10] = [
+pub const OPERATIONS: [(&str, &[u32]); 12] = [
     ("show", &[10, 11, 1, 2, 12, 3, 4, 5, 7, 20]),
     ("check", &[1, 2, 3, 4, 5, 6, 7]),
     ("write", &[1, 2, 3, 4, 5, 6, 7, 8]),
@@ -52,12 +53,14 @@ pub const OPERATIONS: [(&str, &[u32]); 10] = [
     ("judge", &[1, 2, 3, 4, 5, 13]),
     ("fold", &[1, 2, 3, 4, 5, 6, 7, 8, 9]),
     ("fold_weakest", &[1, 2, 3, 4, 5, 6, 7, 8, 9]),
+    ("fold_rings", &[1, 2, 3, 4, 5, 6, 7, 8]),
+    ("fold_rings_weakest", &[1, 2, 3, 4, 5, 6, 7, 8]),
 ];
 
 impl Operation {
     /// A fold with exact room.
-    pub fn fold_exactly(version: Version, budget: u32, table: Table) -> Operation {
-        Fold { version, budget, room: Room::taken_by(&table), table }
+    pub fn fold_exactly(folding: Folding, budget: u32, table: Table) -> Operation {
+        Fold { folding, budget, room: Room::taken_by(&table), table }
     }
 
     pub fn name(&self) -> &'static str {
@@ -69,7 +72,7 @@ impl Operation {
             Load { .. } => "load",
             List { .. } => "list",
             Judge { .. } => "judge",
-            Fold { version, .. } => version.fold(),
+            Fold { folding, .. } => folding.name(),
         }
     }
 
@@ -131,13 +134,15 @@ impl Operation {
                 append_lent_without_counts(&mut body, table);
                 b'j'
             }
-            Fold { version, budget, room, table } => {
+            Fold { folding, budget, room, table } => {
                 body.extend(budget.to_le_bytes());
                 append_lengths(&mut body, &room.numbers()[..3]);
                 append_lent(&mut body, table);
-                match version {
-                    Version::One => b'f',
-                    Version::Two => b'g',
+                match (folding.rings, folding.version) {
+                    (Rings::Refused, Version::One) => b'f',
+                    (Rings::Refused, Version::Two) => b'g',
+                    (Rings::Taken, Version::One) => b'r',
+                    (Rings::Taken, Version::Two) => b'q',
                 }
             }
         };
@@ -169,7 +174,7 @@ impl Operation {
     }
 
     /// The numbers whose condition holds, in the order in which they are given. A cycle is looked for
-    /// where rows are.
+    /// where rows are, and it is refused.
     pub fn faults(&self) -> Vec<u32> {
         match self {
             Show { stream } | Look { stream } => image::faults(stream),
@@ -189,12 +194,12 @@ impl Operation {
                 let beyond = table.vertices().is_some_and(|n| (*s).max(*t) as usize >= n);
                 with(table.faults_without_counts(), 13, beyond)
             }
-            Fold { room, table, .. } => {
+            Fold { folding, room, table, .. } => {
                 let room_is_below =
                     table.vertices().is_some_and(|n| room.is_below(n, table.targets.len()));
                 let faults = with(table.faults(), 8, room_is_below);
-                let rows = faults.iter().all(|&number| number > 3);
-                with(faults, 9, rows && (superbubbles::way(table).has_cycle)(table))
+                let is_tested = !folding.takes_rings() && faults.iter().all(|&number| number > 3);
+                with(faults, 9, is_tested && (superbubbles::way(table).has_cycle)(table))
             }
         }
     }

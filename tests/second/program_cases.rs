@@ -4,7 +4,10 @@
 use crate::cases::{resized, Cases};
 use crate::damages::{self, OF_IMAGE};
 use crate::faults::story::Step;
-use crate::graphs::{self, lettered, LENGTHS_OF_WEAKEST, SHARED, TWELVE, WEAKEST};
+use crate::foldings::Rings;
+use crate::graphs::{
+    self, lettered, BREAKING, LENGTHS_OF_WEAKEST, SHARED, SHRINKING, TWELVE, WEAKEST,
+};
 use crate::image;
 use crate::messages::{
     of_fold, of_step, unread, words_of, IS_FOLDER, NO_FILE, NO_FOLDER, TOO_LONG,
@@ -14,7 +17,7 @@ use crate::random::Random;
 use crate::runs::{Due, Files, ProgramRun};
 use crate::shapes;
 use crate::sharing_cases;
-use crate::table::MOST_VERTICES;
+use crate::table::{Table, MOST_VERTICES};
 use crate::versions::{Version, VERSIONS};
 
 /// The longest word that the system hands to a program.
@@ -42,6 +45,7 @@ impl Cases {
         self.judges_of_version_2();
         self.folded_files();
         self.folded_files_of_version_2();
+        VERSIONS.into_iter().for_each(|version| self.folded_rings(version));
         self.files_left_alone();
     }
 
@@ -270,7 +274,8 @@ impl Cases {
         for digits in [4_096, 4_097, 5_000] {
             let word = format!("{}1", "0".repeat(digits - 1));
             let files = file("in.sbt", of_letter("K"));
-            let run = ProgramRun::fold_by_word(&word, 1, "in.sbt", "out.sbt", files);
+            let run =
+                ProgramRun::fold_by_word(Rings::Refused, &word, 1, "in.sbt", "out.sbt", files);
             self.add_run(format!("a budget of {digits} digits"), run);
             self.begins("folded 1 left 1 edges 6\n");
         }
@@ -356,6 +361,66 @@ impl Cases {
         self.begins("refused 12\n");
     }
 
+    /// Images of a version, most of them of a table with a cycle, folded with `--rings`.
+    fn folded_rings(&mut self, version: Version) {
+        let files = |random: &mut Random, table: &Table| {
+            file("in.sbt", graphs::image(random, version, table))
+        };
+        for (graph, budget, text) in [
+            (&SHRINKING, 0, "folded 0 left 1 edges 9\n"),
+            (&SHRINKING, 1, "folded 1 left 0 edges 7\n"),
+            (&SHRINKING, u32::MAX, "folded 1 left 0 edges 7\n"),
+            (&BREAKING, u32::MAX, "folded 0 left 0 edges 7\n"),
+            (lettered("A"), 1, "folded 0 left 0 edges 0\n"),
+            (lettered("E"), 1, "folded 0 left 0 edges 2\n"),
+            (lettered("G"), 0, "folded 0 left 0 edges 2\n"),
+            (lettered("H"), 1, "folded 0 left 0 edges 5\n"),
+            (lettered("J"), 1, "folded 1 left 0 edges 2\n"),
+            (lettered("K"), 1, "folded 1 left 1 edges 6\n"),
+        ] {
+            let before = files(&mut self.next_random(), &graph.table());
+            let run = ProgramRun::fold_rings(budget, "in.sbt", "out.sbt", before);
+            self.add_run(format!("{}, {version}", graph.name), run);
+            self.begins(text);
+        }
+        let before = files(&mut self.next_random(), &SHRINKING.table());
+        let same = ProgramRun::fold_rings(1, "in.sbt", "in.sbt", before);
+        self.add_run(format!("a ring, {version}, IN and OUT are one"), same);
+        let left = file("gohardim-new-0123456789abcdef", vec![9; 200]);
+        let before = [files(&mut self.next_random(), &SHRINKING.table()), left].concat();
+        let again = ProgramRun::fold_rings(1, "in.sbt", "out.sbt", before);
+        self.add_run(format!("a ring, {version}, after a stop"), again);
+        for digits in [4_096, 5_000] {
+            let word = format!("{}1", "0".repeat(digits - 1));
+            let before = files(&mut self.next_random(), &lettered("K").table());
+            let run = ProgramRun::fold_by_word(Rings::Taken, &word, 1, "in.sbt", "out.sbt", before);
+            self.add_run(format!("a budget of {digits} digits, {version}"), run);
+            self.begins("folded 1 left 1 edges 6\n");
+        }
+        for shape in [shapes::nests_in_a_ring(20, 34), shapes::ladder(), shapes::ring(2_048)] {
+            let random = &mut self.next_random();
+            let table = shape.relabelled(random).table(random);
+            let stream = graphs::image(random, version, &table);
+            self.add_run(format!("a large table, {version}"), rings_over_old(stream));
+        }
+        for _ in 0..6 {
+            let random = &mut self.next_random();
+            let table = shapes::ring_of_nests(random, 3).table(random);
+            let stream = graphs::image(random, version, &table);
+            self.add_run(format!("a ring of nests, {version}"), rings_over_old(stream));
+            let stream = damaged_image(&mut self.next_random(), version);
+            self.add_run(format!("a damaged image, {version}"), rings_over_old(stream));
+        }
+        if version == Version::Two {
+            for (name, stream, text) in refused_images() {
+                self.add_run(name, rings_over_old(stream));
+                self.begins(text);
+            }
+        }
+        self.add_run("an empty file beside an old file", rings_over_old(Vec::new()));
+        self.begins("refused 10\n");
+    }
+
     /// Where `fold` gives no answer, every file is as it was, and there is none more.
     fn files_left_alone(&mut self) {
         let files = [
@@ -370,9 +435,29 @@ impl Cases {
         let nines = "9".repeat(5_000);
         for budget in ["", "a", "-1", "1x", "4294967296", "18446744073709551617", &nines] {
             add("no budget", &[budget, "in.sbt", "out.sbt"], Due::Usage);
+            add("no budget", &["--rings", budget, "in.sbt", "out.sbt"], Due::Usage);
         }
         for words in [&[][..], &["1"], &["1", "in.sbt"], &["1", "in.sbt", "out.sbt", "more.sbt"]] {
             add("wrong words", words, Due::Usage);
+        }
+        for words in [
+            &["--rings"][..],
+            &["--rings", "1"],
+            &["--rings", "1", "in.sbt"],
+            &["--rings", "in.sbt", "out.sbt"],
+            &["--rings", "1", "in.sbt", "out.sbt", "more.sbt"],
+            &["--rings", "--rings", "1", "in.sbt", "out.sbt"],
+            &["1", "--rings", "in.sbt", "out.sbt"],
+            &["1", "in.sbt", "--rings", "out.sbt"],
+            &["1", "in.sbt", "out.sbt", "--rings"],
+        ] {
+            add("--rings and wrong words", words, Due::Usage);
+        }
+        let dashes = "-".repeat(5_000);
+        for word in
+            ["", "--", "-rings", "rings", "--ring", "--ringss", "--Rings", "--rings ", "1", &dashes]
+        {
+            add("a wrong word for --rings", &[word, "1", "in.sbt", "out.sbt"], Due::Usage);
         }
         let (long, longer) = ("n".repeat(256), "n/".repeat(2_049));
         for (name, error) in [
@@ -386,6 +471,8 @@ impl Cases {
             add("no IN", &["1", name, "out.sbt"], Due::Message(unread(name, error)));
         }
         add("no IN", &["1", "none.sbt", "none.sbt"], Due::Message(unread("none.sbt", NO_FILE)));
+        let words = ["--rings", "1", "none.sbt", "out.sbt"];
+        add("no IN", &words, Due::Message(unread("none.sbt", NO_FILE)));
         let too_long = |name| Due::Message(of_fold(name, &words_of(TOO_LONG), "OUT is as it was"));
         add("no IN", &["1", &longer, "out.sbt"], too_long("IN"));
         add("no OUT", &["1", "in.sbt", &longer], too_long("OUT"));
@@ -396,8 +483,9 @@ impl Cases {
             ("none/out.sbt", NO_FILE, Step::OpenFolder),
             ("none/", NO_FILE, Step::OpenFolder),
         ] {
-            let due = Due::Message(of_step(step, error, "in.sbt", name));
-            add("no OUT", &["1", "in.sbt", name], due);
+            let due = || Due::Message(of_step(step, error, "in.sbt", name));
+            add("no OUT", &["1", "in.sbt", name], due());
+            add("no OUT", &["--rings", "1", "in.sbt", name], due());
         }
         for name in ["folder", "folder/", "."] {
             let state = "OUT must be a plain file or a free name; OUT is as it was";
@@ -447,8 +535,16 @@ fn largest_of_two(count: u64) -> Vec<u8> {
 
 /// A fold with budget 1 over an old file.
 fn over_old(stream: Vec<u8>) -> ProgramRun {
-    let files = [file("in.sbt", stream), file("out.sbt", vec![1, 2, 3])].concat();
-    ProgramRun::fold(1, "in.sbt", "out.sbt", files)
+    ProgramRun::fold(1, "in.sbt", "out.sbt", beside_old(stream))
+}
+
+/// The same with `--rings`.
+fn rings_over_old(stream: Vec<u8>) -> ProgramRun {
+    ProgramRun::fold_rings(1, "in.sbt", "out.sbt", beside_old(stream))
+}
+
+fn beside_old(stream: Vec<u8>) -> Files {
+    [file("in.sbt", stream), file("out.sbt", vec![1, 2, 3])].concat()
 }
 
 fn file(name: &str, content: Vec<u8>) -> Files {

@@ -13,37 +13,69 @@ use crate::table::Table;
 use crate::versions::Version;
 use std::collections::{BTreeSet, VecDeque};
 
-pub const WAY: Way = Way { superbubbles, judge, kept, share: sharing::divided, has_cycle };
+pub const WAY: Way = Way { superbubbles, judge, kept, share: sharing::divided, has_cycle, reaches };
 
-/// For each vertex some of the others: its successors, or its predecessors.
-type Neighbours = Vec<Vec<usize>>;
+/// For each vertex some of the others, its successors or its predecessors, all in one list.
+struct Neighbours {
+    /// Where those of each vertex begin, and at the end where the last ones end.
+    starts: Vec<u32>,
+    all: Vec<u32>,
+}
+
+impl Neighbours {
+    /// The second vertex of each pair is a neighbour of the first one.
+    fn of_pairs(n: usize, pairs: impl Iterator<Item = (usize, usize)> + Clone) -> Neighbours {
+        let mut starts = vec![0; n + 1];
+        pairs.clone().for_each(|(one, _)| starts[one + 1] += 1);
+        for vertex in 0..n {
+            starts[vertex + 1] += starts[vertex];
+        }
+        let mut free = starts.clone();
+        let mut all = vec![0; starts[n] as usize];
+        for (one, other) in pairs {
+            all[free[one] as usize] = other as u32;
+            free[one] += 1;
+        }
+        Neighbours { starts, all }
+    }
+
+    fn vertices(&self) -> usize {
+        self.starts.len() - 1
+    }
+
+    fn of(&self, vertex: usize) -> &[u32] {
+        &self.all[self.starts[vertex] as usize..self.starts[vertex + 1] as usize]
+    }
+
+    /// How many each vertex has.
+    fn numbers(&self) -> Vec<u32> {
+        self.starts.windows(2).map(|two| two[1] - two[0]).collect()
+    }
+
+    fn pairs(&self) -> impl Iterator<Item = (usize, usize)> + Clone + '_ {
+        let of_one = |one| self.of(one).iter().map(move |&other| (one, other as usize));
+        (0..self.vertices()).flat_map(of_one)
+    }
+}
 
 fn successors(table: &Table) -> Neighbours {
-    let mut successors = vec![Vec::new(); table.starts.len() - 1];
-    for (from, to) in table.edges() {
-        successors[from].push(to);
-    }
-    successors
+    Neighbours::of_pairs(table.starts.len() - 1, table.edges().into_iter())
 }
 
 fn turned_round(neighbours: &Neighbours) -> Neighbours {
-    let mut turned = vec![Vec::new(); neighbours.len()];
-    for (one, others) in neighbours.iter().enumerate() {
-        for &other in others {
-            turned[other].push(one);
-        }
-    }
-    turned
+    let pairs = neighbours.pairs().map(|(one, other)| (other, one));
+    Neighbours::of_pairs(neighbours.vertices(), pairs)
 }
 
 /// The vertices from which every way along `on` comes to the goal, nearer ones first: the goal, and
 /// then each vertex all of whose neighbours, one at least, stand before it.
 fn bound_for(goal: usize, on: &Neighbours, back: &Neighbours) -> Vec<usize> {
-    let mut missing: Vec<usize> = on.iter().map(Vec::len).collect();
+    let mut missing = on.numbers();
     let mut bound = vec![goal];
     let mut at = 0;
     while at < bound.len() {
-        for &vertex in &back[bound[at]] {
+        for &vertex in back.of(bound[at]) {
+            let vertex = vertex as usize;
             missing[vertex] -= 1;
             if missing[vertex] == 0 && vertex != goal {
                 bound.push(vertex);
@@ -57,7 +89,7 @@ fn bound_for(goal: usize, on: &Neighbours, back: &Neighbours) -> Vec<usize> {
 fn superbubbles(table: &Table) -> Vec<Superbubble> {
     let successors = successors(table);
     let predecessors = turned_round(&successors);
-    let n = successors.len();
+    let n = successors.vertices();
     // for each s and t, whether s is bound for t
     let mut bound = vec![vec![false; n]; n];
     for t in 0..n {
@@ -84,22 +116,22 @@ fn from(
     predecessors: &Neighbours,
     is_bound: impl Fn(usize) -> bool,
 ) -> Option<Superbubble> {
-    let mut bound_from = vec![false; successors.len()];
+    let mut bound_from = vec![false; successors.vertices()];
     for t in bound_for(s, predecessors, successors) {
         bound_from[t] = true;
     }
     let mut seen = BTreeSet::from([s]);
     let mut waiting = VecDeque::from([s]);
     while let Some(vertex) = waiting.pop_front() {
-        if vertex != s && is_bound(vertex) && !successors[vertex].contains(&s) {
+        if vertex != s && is_bound(vertex) && !successors.of(vertex).contains(&(s as u32)) {
             return Some(Superbubble {
                 entrance: s,
                 exit: vertex,
                 all: between(s, vertex, successors),
             });
         }
-        let on = successors[vertex].iter().filter(|&&next| bound_from[next]);
-        waiting.extend(on.filter(|&&next| seen.insert(next)));
+        let on = successors.of(vertex).iter().map(|&next| next as usize);
+        waiting.extend(on.filter(|&next| bound_from[next] && seen.insert(next)));
     }
     None
 }
@@ -109,22 +141,23 @@ fn between(s: usize, t: usize, successors: &Neighbours) -> BTreeSet<usize> {
     let mut seen = BTreeSet::from([s, t]);
     let mut waiting = vec![s];
     while let Some(vertex) = waiting.pop() {
-        waiting.extend(successors[vertex].iter().filter(|&&next| seen.insert(next)));
+        let on = successors.of(vertex).iter().map(|&next| next as usize);
+        waiting.extend(on.filter(|&next| seen.insert(next)));
     }
     seen
 }
 
 fn kept(version: Version, table: &Table, superbubble: &Superbubble) -> Vec<usize> {
     let (entrance, exit) = superbubble.pair();
-    // of U alone, up to the exit
-    let mut successors = vec![Vec::new(); table.starts.len() - 1];
-    for &vertex in superbubble.all.iter().filter(|&&vertex| vertex != exit) {
-        successors[vertex] = table.row(vertex).iter().map(|&next| next as usize).collect();
-    }
-    if version == Version::Two {
-        // the bare edge is never kept
-        successors[entrance].retain(|&next| next != exit);
-    }
+    // of U alone, up to the exit; in version 2 the bare edge is never kept
+    let is_left = |&(from, to): &(usize, usize)| {
+        let is_bare_edge = (from, to) == (entrance, exit);
+        superbubble.all.contains(&from)
+            && from != exit
+            && !(is_bare_edge && version == Version::Two)
+    };
+    let edges: Vec<(usize, usize)> = table.edges().into_iter().filter(is_left).collect();
+    let successors = Neighbours::of_pairs(table.starts.len() - 1, edges.into_iter());
     let next = match version {
         Version::One => next_by_sum(table, exit, &successors),
         Version::Two => next_by_weakest(table, entrance, exit, &successors),
@@ -139,12 +172,13 @@ fn kept(version: Version, table: &Table, superbubble: &Superbubble) -> Vec<usize
 /// From the exit backwards: the best that can still be gathered from each vertex, and by which
 /// successor, the smallest of those that are as good.
 fn next_by_sum(table: &Table, exit: usize, successors: &Neighbours) -> Vec<usize> {
-    let mut best = vec![0; successors.len()];
-    let mut next = vec![exit; successors.len()];
+    let mut best = vec![0; successors.vertices()];
+    let mut next = vec![exit; successors.vertices()];
     for &vertex in &bound_for(exit, successors, &turned_round(successors))[1..] {
         let by = |on: usize| if on == exit { 0 } else { table.counts[on] + best[on] };
-        let most = successors[vertex].iter().map(|&on| by(on)).max().unwrap();
-        next[vertex] = *successors[vertex].iter().find(|&&on| by(on) == most).unwrap();
+        let all = || successors.of(vertex).iter().map(|&on| on as usize);
+        let most = all().map(by).max().unwrap();
+        next[vertex] = all().find(|&on| by(on) == most).unwrap();
         best[vertex] = most;
     }
     next
@@ -159,7 +193,7 @@ fn next_by_weakest(
     exit: usize,
     successors: &Neighbours,
 ) -> Vec<usize> {
-    let mut to_come = vec![u64::MAX; successors.len()];
+    let mut to_come = vec![u64::MAX; successors.vertices()];
     let by = |on: usize, to_come: &[u64]| {
         if on == exit {
             u64::MAX
@@ -168,21 +202,26 @@ fn next_by_weakest(
         }
     };
     for &vertex in &bound_for(exit, successors, &turned_round(successors))[1..] {
-        to_come[vertex] = successors[vertex].iter().map(|&on| by(on, &to_come)).max().unwrap();
+        let all = successors.of(vertex).iter();
+        to_come[vertex] = all.map(|&on| by(on as usize, &to_come)).max().unwrap();
     }
     let due = to_come[entrance];
-    let next = |on: &Vec<usize>| on.iter().copied().find(|&on| by(on, &to_come) >= due);
-    successors.iter().map(|on| next(on).unwrap_or(exit)).collect()
+    let next = |vertex: usize| {
+        let mut all = successors.of(vertex).iter().map(|&on| on as usize);
+        all.find(|&on| by(on, &to_come) >= due).unwrap_or(exit)
+    };
+    (0..successors.vertices()).map(next).collect()
 }
 
 /// Takes away vertices that have no predecessor left; what remains has a cycle.
 fn has_cycle(table: &Table) -> bool {
     let successors = successors(table);
-    let mut missing: Vec<usize> = turned_round(&successors).iter().map(Vec::len).collect();
+    let mut missing = turned_round(&successors).numbers();
     let mut taken: Vec<usize> = (0..missing.len()).filter(|&vertex| missing[vertex] == 0).collect();
     let mut at = 0;
     while at < taken.len() {
-        for &vertex in &successors[taken[at]] {
+        for &vertex in successors.of(taken[at]) {
+            let vertex = vertex as usize;
             missing[vertex] -= 1;
             if missing[vertex] == 0 {
                 taken.push(vertex);
@@ -191,4 +230,24 @@ fn has_cycle(table: &Table) -> bool {
         at += 1;
     }
     taken.len() < missing.len()
+}
+
+/// Goes on from a vertex to what is new until it comes to the other one or there is nothing new.
+fn reaches(table: &Table, from: usize, to: usize) -> bool {
+    let mut seen = vec![false; table.starts.len() - 1];
+    seen[from] = true;
+    let mut waiting = vec![from];
+    while let Some(vertex) = waiting.pop() {
+        for &next in table.row(vertex) {
+            let next = next as usize;
+            if !seen[next] {
+                seen[next] = true;
+                waiting.push(next);
+            }
+        }
+        if seen[to] {
+            return true;
+        }
+    }
+    false
 }

@@ -3,6 +3,7 @@
 
 use crate::count::Fault;
 use crate::fold;
+use crate::foldings::{Folding, Rings};
 use crate::image::{self, Content};
 use crate::messages::{unread, NO_FILE};
 use crate::parts::{difference_of_parts, Part};
@@ -120,11 +121,17 @@ impl ProgramRun {
 
     /// `fold BUDGET IN OUT` with these files before. A file that an earlier stop left stays.
     pub fn fold(budget: u32, input: &str, output: &str, before: Files) -> ProgramRun {
-        ProgramRun::fold_by_word(&budget.to_string(), budget, input, output, before)
+        ProgramRun::fold_by_word(Rings::Refused, &budget.to_string(), budget, input, output, before)
     }
 
-    /// The same with a budget that is written in its own way.
+    /// `fold --rings BUDGET IN OUT` with these files before.
+    pub fn fold_rings(budget: u32, input: &str, output: &str, before: Files) -> ProgramRun {
+        ProgramRun::fold_by_word(Rings::Taken, &budget.to_string(), budget, input, output, before)
+    }
+
+    /// One of the two with a budget that is written in its own way.
     pub fn fold_by_word(
+        rings: Rings,
         word: &str,
         budget: u32,
         input: &str,
@@ -132,13 +139,13 @@ impl ProgramRun {
         before: Files,
     ) -> ProgramRun {
         let (_, stream) = before.iter().find(|(name, _)| name == input).unwrap();
-        let (text, image) = folded_file(stream, budget);
+        let (text, image) = folded_file(rings, stream, budget);
         let mut after = before.clone();
         if let Some(image) = image {
             after.retain(|(name, _)| name != output);
             after.push((output.to_string(), image));
         }
-        let words = [word, input, output].map(str::to_string).to_vec();
+        let words = words_of_fold(rings, word, input, output);
         let due = Due::Text(text);
         ProgramRun { program: "fold", words, stream: vec![], piece: WHOLE, due, before, after }
     }
@@ -277,6 +284,15 @@ fn files_in(folder: &Path, prefix: &str) -> io::Result<Files> {
     Ok(files)
 }
 
+/// The words behind `fold`.
+pub fn words_of_fold(rings: Rings, budget: &str, input: &str, output: &str) -> Vec<String> {
+    let first: &[&str] = match rings {
+        Rings::Refused => &[],
+        Rings::Taken => &["--rings"],
+    };
+    [first, &[budget, input, output]].concat().into_iter().map(str::to_string).collect()
+}
+
 // ---- the texts
 
 fn list_text(table: &Table) -> String {
@@ -301,17 +317,18 @@ fn judge_text(table: &Table, s: &str, t: &str) -> String {
 
 /// What `fold` prints for an image, and the image that it writes, where it does: of the same version,
 /// with the lengths as they were.
-fn folded_file(stream: &[u8], budget: u32) -> (String, Option<Vec<u8>>) {
+fn folded_file(rings: Rings, stream: &[u8], budget: u32) -> (String, Option<Vec<u8>>) {
     let refused = |number: u32| (format!("refused {number}\n"), None);
     let content = match image::content_or_number(stream) {
         Ok(content) => content,
         Err(number) => return refused(number),
     };
     let table = &content.table;
-    if (way(table).has_cycle)(table) {
+    if rings == Rings::Refused && (way(table).has_cycle)(table) {
         return refused(9);
     }
-    let done = fold::fold(way(table), content.version(), table, budget);
+    let folding = Folding { version: content.version(), rings };
+    let done = fold::fold(way(table), folding, table, budget);
     let edges = done.table.targets.len();
     let text = format!("folded {} left {} edges {edges}\n", done.folded, done.left);
     let new = Content { table: done.table, lengths: content.lengths };

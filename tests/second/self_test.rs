@@ -1,7 +1,7 @@
 //! The second program held to itself and to the rules: its answers to what was written by hand, the
 //! definition against the quick way, cycles against a walk, images and what they hold turned into each
-//! other, folding in turn against folding by the sum, look and load in a row, and that the cases reach
-//! what they must.
+//! other, folding in turn against folding by the sum, look and load in a row, both folds of a version on
+//! tables without a cycle, and that the cases reach what they must.
 
 use crate::cases::{self, Case};
 use crate::count::{Count, Fault};
@@ -13,6 +13,7 @@ use crate::operations::Operation;
 use crate::parallel;
 use crate::parts::difference_of_parts;
 use crate::quick;
+use crate::side_by_side;
 use crate::superbubbles;
 use crate::turns::Question;
 use crate::walk;
@@ -25,14 +26,16 @@ pub fn check(cases: &[Case], answers: &[Vec<u8>], count: &mut Count) {
         let check = |&(case, answer): &(_, &Vec<u8>)| Some((case, check(case, answer)?));
         parallel::each(&with_answers, check).into_iter().flatten().collect()
     };
-    let in_a_row = with_answers.iter().map(|&(case, answer)| (case, &answer[..]));
-    let kinds: [(&str, Vec<(&Case, Fault)>); 6] = [
+    let answered: Vec<(&Case, &[u8])> =
+        with_answers.iter().map(|&(case, answer)| (case, &answer[..])).collect();
+    let kinds: [(&str, Vec<(&Case, Fault)>); 7] = [
         ("answers written by hand", each(by_hand)),
         ("answers by the definition and by the quick way", each(by_both_ways)),
         ("cycles, found or not, by either way and by a walk", each(by_walk)),
         ("images and what they hold, there and back", each(there_and_back)),
         ("tables folded in turn and by the sum", cases::in_turn(cases, &fold)),
-        ("looks and loads in a row", in_a_row::checks(in_a_row)),
+        ("looks and loads in a row", in_a_row::checks(answered.iter().copied())),
+        ("tables without a cycle by both folds of a version", side_by_side::checks(&answered)),
     ];
     for (kind, checks) in kinds {
         println!("self-test: {} {kind}", checks.len());
@@ -78,7 +81,7 @@ fn there_and_back(case: &Case, _: &[u8]) -> Option<Fault> {
 
 /// Folds by the second program itself.
 pub fn fold(questions: &[Question]) -> Vec<Result<Folded, String>> {
-    parallel::each(questions, |(version, table, budget)| {
-        Ok(fold::fold(superbubbles::way(table), *version, table, *budget))
+    parallel::each(questions, |(folding, table, budget)| {
+        Ok(fold::fold(superbubbles::way(table), *folding, table, *budget))
     })
 }

@@ -49,6 +49,12 @@ impl Shape {
         Shape { n: self.n, edges: [&self.edges[..], &[edge]].concat() }
     }
 
+    /// The same graph without an edge.
+    pub fn without(&self, edge: Edge) -> Shape {
+        let edges = self.edges.iter().copied().filter(|&other| other != edge).collect();
+        Shape { n: self.n, edges }
+    }
+
     /// A graph without a cycle, and one edge more that closes one: from the end of some path back
     /// to its beginning. Where the path has no edge, that is a self-loop.
     pub fn closed(&self, random: &mut Random) -> Shape {
@@ -74,6 +80,31 @@ impl Shape {
             self.n += 1;
         }
         self.edges.push((last, to));
+    }
+
+    /// A superbubble from one vertex to another: perhaps a bare edge, plain arms, and arms with others
+    /// inside, so many deep.
+    fn add_nest(&mut self, random: &mut Random, from: usize, to: usize, depth: usize) {
+        let has_bare_edge = random.between(0, 1) == 0;
+        let nested = if depth > 1 { random.one_of(&[1, 1, 2]) } else { 0 };
+        let others = usize::from(has_bare_edge) + nested;
+        let plain = if others < 2 { 2 - others } else { 0 };
+        self.edges.extend(has_bare_edge.then_some((from, to)));
+        for _ in 0..plain + random.between(0, 1) {
+            self.add_arm(from, random.one_of(&[1, 1, 2]), to);
+        }
+        for _ in 0..nested {
+            let (entrance, exit) = (self.n, self.n + 1);
+            self.n += 2;
+            self.edges.extend([(from, entrance), (exit, to)]);
+            self.add_nest(random, entrance, exit, depth - 1);
+        }
+    }
+
+    /// A vertex more, by its number.
+    fn add_vertex(&mut self) -> usize {
+        self.n += 1;
+        self.n - 1
     }
 
     /// Puts something larger in the place of one edge, of so many new vertices at the most.
@@ -164,6 +195,12 @@ pub fn every(n: usize) -> Vec<Shape> {
     every_choice(n, &pairs(n))
 }
 
+/// Every graph of n vertices without a self-loop.
+pub fn every_without_self_loop(n: usize) -> Vec<Shape> {
+    let edges: Vec<Edge> = pairs(n).into_iter().filter(|(from, to)| from != to).collect();
+    every_choice(n, &edges)
+}
+
 /// Every graph of n vertices whose edges all rise.
 pub fn every_rising(n: usize) -> Vec<Shape> {
     every_choice(n, &rising(n))
@@ -216,6 +253,62 @@ pub fn bubbly(random: &mut Random, n: usize) -> Shape {
     first.grown(random, n).spoiled(random, spoils).relabelled(random)
 }
 
+/// A ring of at most n vertices that is rich in superbubbles; it may be spoiled by an edge.
+pub fn bubbly_ring(random: &mut Random, n: usize) -> Shape {
+    let few = random.between(2, 4);
+    let spoils = random.one_of(&[0, 0, 0, 1]);
+    ring(few).grown(random, n).spoiled(random, spoils).relabelled(random)
+}
+
+/// A ring of one to three nests, so many deep at the most, with other edges between some.
+pub fn ring_of_nests(random: &mut Random, most: usize) -> Shape {
+    let mut shape = Shape { n: 1, edges: Vec::new() };
+    let mut entrance = 0;
+    for _ in 0..random.between(1, 3) {
+        let exit = shape.add_vertex();
+        let depth = random.between(1, most);
+        shape.add_nest(random, entrance, exit, depth);
+        entrance = exit;
+        if random.between(0, 2) == 0 {
+            let next = shape.add_vertex();
+            shape.edges.push((entrance, next));
+            entrance = next;
+        }
+    }
+    shape.add_arm(entrance, random.one_of(&[0, 1, 1, 2, 5]), 0);
+    shape.relabelled(random)
+}
+
+/// A nest, and a ring that leads to its entrance, a ring to which its exit leads, and one beside it, of
+/// which some are missing. Now and then the second leads on to the first.
+pub fn nest_between_rings(random: &mut Random, most: usize) -> Shape {
+    let mut shape = Shape { n: 2, edges: Vec::new() };
+    let depth = random.between(1, most);
+    shape.add_nest(random, 0, 1, depth);
+    let mut add_ring = |shape: &mut Shape| {
+        let first = shape.add_vertex();
+        let mut last = first;
+        if random.between(0, 1) == 0 {
+            last = shape.add_vertex();
+            shape.add_nest(random, first, last, 1);
+        }
+        shape.add_arm(last, random.between(0, 2), first);
+        first
+    };
+    let [before, behind, _] = [0, 1, 2].map(|_| add_ring(&mut shape));
+    let kinds = random.between(0, 5);
+    if kinds != 0 {
+        shape.add_arm(1, random.between(0, 2), behind);
+    }
+    if kinds > 1 {
+        shape.add_arm(before, random.between(0, 2), 0);
+    }
+    if kinds == 5 {
+        shape.add_arm(behind, random.between(0, 2), before);
+    }
+    shape.relabelled(random)
+}
+
 /// A graph of at most n vertices without a cycle that is rich in superbubbles.
 pub fn bubbly_acyclic(random: &mut Random, n: usize) -> Shape {
     let few = random.between(2, 5);
@@ -240,6 +333,13 @@ pub fn tangle(random: &mut Random, n: usize) -> Shape {
         }
     }
     tangle
+}
+
+/// The same, and from the last vertex back to the first over a new one.
+pub fn tangle_in_a_ring(random: &mut Random, n: usize) -> Shape {
+    let mut tangle = tangle(random, n);
+    tangle.add_arm(n - 1, 1, 0);
+    tangle.relabelled(random)
 }
 
 /// Two superbubbles one after the other with arms of up to twelve vertices, in which others grow, as far
@@ -327,6 +427,14 @@ pub fn arms(superbubbles: &[Vec<usize>]) -> Shape {
     shape
 }
 
+/// The same, and from the last exit back to the first entrance over so many new vertices.
+pub fn ring_of_arms(superbubbles: &[Vec<usize>], back: usize) -> Shape {
+    let mut shape = arms(superbubbles);
+    let of_last: usize = superbubbles.last().map_or(0, |lengths| lengths.iter().sum());
+    shape.add_arm(shape.n - 1 - of_last, back, 0);
+    shape
+}
+
 /// From 0 to 1 by each other vertex.
 pub fn fan(n: usize) -> Shape {
     arms(&[vec![1; n - 2]])
@@ -357,11 +465,21 @@ pub fn diamonds(times: usize) -> Shape {
 /// Superbubbles in each other, so many deep, many times one after the other: the exit of each
 /// outermost one is the entrance of the next.
 pub fn nests(depth: usize, times: usize) -> Shape {
+    nests_and_exit(depth, times).0
+}
+
+/// The same, and from the last exit back to the first entrance over one new vertex.
+pub fn nests_in_a_ring(depth: usize, times: usize) -> Shape {
+    let (mut nests, exit) = nests_and_exit(depth, times);
+    nests.add_arm(exit, 1, 0);
+    nests
+}
+
+fn nests_and_exit(depth: usize, times: usize) -> (Shape, usize) {
     let mut nests = Shape { n: 1, edges: Vec::new() };
     let mut entrance = 0;
     for _ in 0..times {
-        let exit = nests.n;
-        nests.n += 1;
+        let exit = nests.add_vertex();
         let (mut from, mut to) = (entrance, exit);
         for _ in 1..depth {
             nests.add_arm(from, 1, to);
@@ -374,5 +492,5 @@ pub fn nests(depth: usize, times: usize) -> Shape {
         nests.edges.push((from, to));
         entrance = exit;
     }
-    nests
+    (nests, entrance)
 }

@@ -3,6 +3,7 @@
 //! a budget parts, and some with others inside.
 
 use crate::cases::Cases;
+use crate::foldings::{Folding, Rings};
 use crate::graphs;
 use crate::operations::Operation;
 use crate::random::Random;
@@ -35,25 +36,29 @@ const LARGE_SUMS: [(&str, u64, &[u64]); 4] = [
 ];
 
 impl Cases {
-    pub fn shares(&mut self, version: Version) {
-        self.every_remainder(version);
-        self.long_paths(version);
-        self.largest_sums(version);
+    pub fn shares(&mut self, folding: Folding) {
+        self.every_remainder(folding);
+        self.long_paths(folding);
+        self.largest_sums(folding);
         for _ in 0..60 {
-            self.one_folded(version, "arms that are worth the same", None, |random| {
-                let worth = random.one_of(&[0, 0, 1, 7, 1_000, most_worth(version)]);
-                let arms = worth_the_same(version, random, worth);
+            self.one_folded(folding, "arms that are worth the same", None, |random| {
+                let worth = random.one_of(&[0, 0, 1, 7, 1_000, most_worth(folding.version)]);
+                let arms = worth_the_same(folding.version, random, worth);
                 Counted::of(random, &[arms])
             });
         }
         for _ in 0..500 {
-            self.parted(version, "superbubbles in a row with long arms", 7, |random| {
-                row_with_long_arms(version, random)
+            self.parted(folding, "superbubbles in a row with long arms", 7, |random| {
+                row_with_long_arms(folding.version, random)
             });
         }
-        for (many, most) in [(300, 150), (4, MOST_VERTICES)] {
+        let large = match folding.rings {
+            Rings::Refused => 4,
+            Rings::Taken => 0,
+        };
+        for (many, most) in [(300, 150), (large, MOST_VERTICES)] {
             for _ in 0..many {
-                self.parted(version, "long arms with superbubbles inside", 3, |random| {
+                self.parted(folding, "long arms with superbubbles inside", 3, |random| {
                     let n = random.between(most / 3, most);
                     shapes::long_armed(random, n).table(random)
                 });
@@ -62,46 +67,52 @@ impl Cases {
     }
 
     /// Fewer dropped reads than inner vertices, as many or some more, and many more.
-    fn every_remainder(&mut self, version: Version) {
+    fn every_remainder(&mut self, folding: Folding) {
         for inner in 1..=12 {
             for remainder in 0..inner {
                 for (least, most) in [(0, 0), (1, 1), (2, 1_000)] {
                     let name = format!("{inner} inner vertices, remainder {remainder}");
-                    self.one_folded(version, &name, Some(inner), |random| {
+                    self.one_folded(folding, &name, Some(inner), |random| {
                         let reads = random.between(least, most) * inner + remainder;
-                        superbubble(version, random, inner, reads)
+                        superbubble(folding.version, random, inner, reads)
                     });
                 }
             }
         }
     }
 
-    fn long_paths(&mut self, version: Version) {
+    fn long_paths(&mut self, folding: Folding) {
         // in version 2 each kept count is larger than all dropped reads
-        let most = match version {
+        let most = match folding.version {
             Version::One => 1 << 27,
             Version::Two => 1 << 15,
         };
-        for inner in [63, 64, 65, 255, 256, 1_000, 2_000, LONGEST] {
+        let lengths: &[usize] = match folding.rings {
+            Rings::Refused => &[63, 64, 65, 255, 256, 1_000, 2_000, LONGEST],
+            Rings::Taken => &[64, 255, 1_000, 1_001],
+        };
+        for &inner in lengths {
             for (words, remainder) in REMAINDERS {
                 let name = format!("{inner} inner vertices, {words}");
-                self.one_folded(version, &name, Some(inner), |random| {
+                self.one_folded(folding, &name, Some(inner), |random| {
                     let remainder = remainder(random, inner);
                     let least = usize::from(remainder == 0);
                     let reads = random.one_of(&[least, 1, 1_000, most]) * inner + remainder;
-                    superbubble(version, random, inner, reads)
+                    superbubble(folding.version, random, inner, reads)
                 });
             }
         }
     }
 
-    fn largest_sums(&mut self, version: Version) {
+    fn largest_sums(&mut self, folding: Folding) {
         for inner in [1, 2, 3, 5, 7, 12, 100] {
             for (words, kept, dropped) in LARGE_SUMS {
                 let name = format!("the largest sum, {inner} inner vertices, {words}");
-                self.one_folded(version, &name, Some(inner), |random| {
-                    let mut arms = vec![kept_arm(version, random, inner, kept)];
-                    arms.extend(dropped.iter().map(|&reads| dropped_arm(version, random, reads)));
+                self.one_folded(folding, &name, Some(inner), |random| {
+                    let mut arms = vec![kept_arm(folding.version, random, inner, kept)];
+                    arms.extend(
+                        dropped.iter().map(|&reads| dropped_arm(folding.version, random, reads)),
+                    );
                     Counted::of(random, &[arms]).filled()
                 });
             }
@@ -112,30 +123,30 @@ impl Cases {
     /// is known how many edges are left.
     fn one_folded(
         &mut self,
-        version: Version,
+        folding: Folding,
         name: &str,
         inner: Option<usize>,
         make: impl Fn(&mut Random) -> Counted,
     ) {
         let edges = inner.map_or_else(String::new, |inner| format!("{}\n", inner + 1));
-        self.in_each_numbering(version, name, &format!("0 1 0 {edges}"), |random, number| {
+        self.in_each_numbering(folding, name, &format!("0 1 0 {edges}"), |random, number| {
             let counted = make(random);
             let table = counted.table(&number(counted.shape.n, random));
-            Operation::fold_exactly(version, random.one_of(&[1, 1, 2, u32::MAX]), table)
+            Operation::fold_exactly(folding, random.one_of(&[1, 1, 2, u32::MAX]), table)
         });
     }
 
     /// A table with several superbubbles, of which a budget up to this one folds some.
     fn parted(
         &mut self,
-        version: Version,
+        folding: Folding,
         name: &str,
         most: usize,
         make: impl Fn(&mut Random) -> Table,
     ) {
         self.add(name, |random| {
             let table = make(random);
-            Operation::fold_exactly(version, random.between(0, most) as u32, table)
+            Operation::fold_exactly(folding, random.between(0, most) as u32, table)
         });
     }
 }

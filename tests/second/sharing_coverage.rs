@@ -9,6 +9,7 @@ use crate::choosing_coverage;
 use crate::count::Fault;
 use crate::coverage::{met, too_few};
 use crate::fold::{self, Chosen};
+use crate::foldings::{Folding, FOLDINGS};
 use crate::operations::Operation;
 use crate::parallel;
 use crate::quick;
@@ -16,7 +17,7 @@ use crate::sharing::{self, Share, MOST_DEALT, WRONG};
 use crate::superbubbles;
 use crate::table::{Table, LARGEST_SUM};
 use crate::turns::{Question, Turns};
-use crate::versions::{Version, VERSIONS};
+use crate::versions::Version;
 use std::cmp::Ordering;
 use std::collections::BTreeSet;
 
@@ -27,18 +28,21 @@ const OF_TURNS: usize = 3;
 
 pub fn check(cases: &[Case], answers: &[Vec<u8>]) -> Vec<(String, Fault)> {
     let folds: Vec<Question> = cases.iter().zip(answers).filter_map(folded).collect();
-    let folds: Vec<Fold> = parallel::each(&folds, Fold::of);
-    let mut checks = choosing_coverage::check(&folds);
-    let (of_one, of_two): (Vec<Fold>, Vec<Fold>) =
-        folds.into_iter().partition(|fold| fold.version == Version::One);
-    checks.extend(met(Version::One.fold(), &of_one, &[KEPT_BARE_EDGE]));
-    for (version, folds) in VERSIONS.into_iter().zip([of_one, of_two]) {
-        let fold = version.fold();
-        checks.extend(remainders(fold, &folds));
-        checks.extend(met(fold, &folds, &MET));
-        checks.push(both_ways(fold, &folds));
-        checks.extend(wrong_rules(fold, &folds));
-        checks.extend(turns(version, cases));
+    let mut folds: Vec<Fold> = parallel::each(&folds, Fold::of);
+    let mut checks = Vec::new();
+    for folding in FOLDINGS {
+        let such: Vec<Fold>;
+        (such, folds) = folds.into_iter().partition(|fold| fold.folding == folding);
+        checks.extend(choosing_coverage::check(folding, &such));
+        let name = folding.name();
+        if folding.version == Version::One {
+            checks.extend(met(name, &such, &[KEPT_BARE_EDGE]));
+        }
+        checks.extend(remainders(folding, &such));
+        checks.extend(met(name, &such, &MET));
+        checks.push(both_ways(name, &such));
+        checks.extend(wrong_rules(name, &such));
+        checks.extend(turns(folding, cases));
     }
     checks
 }
@@ -47,7 +51,7 @@ pub fn check(cases: &[Case], answers: &[Vec<u8>]) -> Vec<(String, Fault)> {
 
 /// A fold that folds something, and what it folds.
 pub struct Fold<'a> {
-    pub version: Version,
+    pub folding: Folding,
     pub table: &'a Table,
     pub chosen: Vec<Chosen>,
 }
@@ -55,16 +59,16 @@ pub struct Fold<'a> {
 /// What such a fold is asked, by its answer.
 fn folded<'a>((case, answer): (&'a Case, &Vec<u8>)) -> Option<Question<'a>> {
     match (case.operation()?, &numbers_in_first_line(answer)[..]) {
-        (Operation::Fold { version, budget, table, .. }, [0, folded, ..]) if *folded > 0 => {
-            Some((*version, table, *budget))
+        (Operation::Fold { folding, budget, table, .. }, [0, folded, ..]) if *folded > 0 => {
+            Some((*folding, table, *budget))
         }
         _ => None,
     }
 }
 
 impl Fold<'_> {
-    fn of<'a>(&(version, table, budget): &Question<'a>) -> Fold<'a> {
-        Fold { version, table, chosen: fold::chosen(&quick::WAY, version, table, budget) }
+    fn of<'a>(&(folding, table, budget): &Question<'a>) -> Fold<'a> {
+        Fold { folding, table, chosen: fold::chosen(&quick::WAY, folding, table, budget) }
     }
 
     /// Whether it shares reads like this.
@@ -107,9 +111,11 @@ impl Shared<'_> {
     }
 }
 
-/// Each remainder of each short length, and some of the long ones.
-fn remainders(fold: &str, folds: &[Fold]) -> Vec<(String, Fault)> {
+/// Each remainder of each short length, and some of the long ones, of which the longest are left to the
+/// folds that refuse cycles.
+fn remainders(folding: Folding, folds: &[Fold]) -> Vec<(String, Fault)> {
     let mut checks = Vec::new();
+    let fold = folding.name();
     for inner in 1..=12 {
         let kinds = (0..inner).map(|remainder| {
             let is_such =
@@ -119,7 +125,9 @@ fn remainders(fold: &str, folds: &[Fold]) -> Vec<(String, Fault)> {
         let title = format!("{fold}, inner vertices = {inner}");
         checks.extend(in_a_line(&title, folds, OF_REMAINDER, kinds));
     }
-    for (least, words) in [(100, "100"), (1_000, "1,000"), (2_000, "2,000")] {
+    let long = [(100, "100"), (1_000, "1,000"), (2_000, "2,000")];
+    let long = if folding.takes_rings() { &long[..2] } else { &long };
+    for &(least, words) in long {
         let title = format!("{fold}, inner vertices {words} or more");
         let kinds = OF_LONG.map(|(words, has)| {
             let is_such = move |one: &Shared| one.inner.len() >= least && has(one);
@@ -225,16 +233,17 @@ struct InTurn<'a> {
 
 impl InTurn<'_> {
     fn of<'a>(turns: &&'a Turns) -> Option<InTurn<'a>> {
-        let candidates = superbubbles::candidates(&quick::WAY, &turns.table).len();
+        let candidates =
+            superbubbles::candidates(&quick::WAY, turns.folding.rings, &turns.table).len();
         let sum = (turns.sum() as usize).cmp(&candidates);
         (candidates > 1).then_some(InTurn { budgets: &turns.budgets, sum })
     }
 }
 
 /// Each number of budgets, with each kind of sum and with a budget of 0.
-fn turns(version: Version, cases: &[Case]) -> Vec<(String, Fault)> {
+fn turns(folding: Folding, cases: &[Case]) -> Vec<(String, Fault)> {
     let turns = cases.iter().filter_map(Case::turns);
-    let turns: Vec<&Turns> = turns.filter(|turns| turns.version == version).collect();
+    let turns: Vec<&Turns> = turns.filter(|turns| turns.folding == folding).collect();
     let turns: Vec<InTurn> = parallel::each(&turns, InTurn::of).into_iter().flatten().collect();
     let mut checks = Vec::new();
     for many in 1..=6 {
@@ -242,8 +251,8 @@ fn turns(version: Version, cases: &[Case]) -> Vec<(String, Fault)> {
             let is_such = move |one: &InTurn| one.budgets.len() == many && is_such(one);
             (words.to_string(), is_such)
         });
-        let fold = version.fold();
-        let title = format!("{fold} in turn, of two candidates or more, budgets = {many}");
+        let name = folding.name();
+        let title = format!("{name} in turn, of two candidates or more, budgets = {many}");
         checks.extend(in_a_line(&title, &turns, OF_TURNS, kinds));
     }
     checks

@@ -1,15 +1,15 @@
-//! Folding in turn, by the fold of either version: several budgets, each on what the last left, give the
-//! table that one fold with their sum gives; the total never moves; and where no candidate is left, a
-//! further fold gives back its input.
+//! Folding in turn, by any of the folds: several budgets, each on what the last left, give the table that
+//! one fold with their sum gives; the total never moves; of the candidates as many are folded as this sum
+//! says, and the others are left; and where none is left, a further fold gives back its input.
 
 use crate::count::Fault;
 use crate::fold::Folded;
+use crate::foldings::Folding;
 use crate::parts::{difference_of_parts, Part};
 use crate::table::Table;
-use crate::versions::Version;
 
 pub struct Turns {
-    pub version: Version,
+    pub folding: Folding,
     pub table: Table,
     /// One or more budgets whose sum is one.
     pub budgets: Vec<u32>,
@@ -17,8 +17,8 @@ pub struct Turns {
     pub further: u32,
 }
 
-/// A table, the version by whose fold it is to be folded, and the budget.
-pub type Question<'a> = (Version, &'a Table, u32);
+/// A table, by which fold it is to be folded, and the budget.
+pub type Question<'a> = (Folding, &'a Table, u32);
 
 /// What folds many tables: for each what came of it, or in words why nothing did.
 pub type Folds<'a> = &'a dyn Fn(&[Question]) -> Vec<Result<Folded, String>>;
@@ -28,7 +28,7 @@ impl Turns {
     pub fn asked(&self) -> Vec<Part> {
         let budgets: Vec<String> = self.budgets.iter().map(u32::to_string).collect();
         let mut asked = vec![
-            Part::value("by", self.version.fold()),
+            Part::value("by", self.folding.name()),
             Part::value("budgets", budgets.join(" ")),
             Part::value("a further one", self.further),
         ];
@@ -44,6 +44,10 @@ impl Turns {
 
 /// What came of the folds of a table.
 pub struct Turned {
+    /// The sum of the budgets.
+    sum: u32,
+    /// A fold by the budget 0: what is left then is how many candidates there are.
+    by_none: State,
     /// One fold by the sum.
     pub at_once: State,
     /// A fold by each budget, on what the last left.
@@ -59,6 +63,7 @@ pub type State = Result<Folded, String>;
 pub fn turned(turns: &[&Turns], folds: Folds) -> Vec<Turned> {
     let unfolded = |one: &Turns| Folded { table: one.table.clone(), folded: 0, left: 0 };
     let before: Vec<State> = turns.iter().map(|one| Ok(unfolded(one))).collect();
+    let by_none = once_more(turns, &before, |_| Some(0), folds);
     let at_once = once_more(turns, &before, |one| Some(one.sum()), folds);
     let mut in_turn = before;
     let most = turns.iter().map(|one| one.budgets.len()).max().unwrap_or(0);
@@ -66,8 +71,16 @@ pub fn turned(turns: &[&Turns], folds: Folds) -> Vec<Turned> {
         in_turn = once_more(turns, &in_turn, |one| one.budgets.get(turn).copied(), folds);
     }
     let further = once_more(turns, &in_turn, |one| Some(one.further), folds);
-    let all = at_once.into_iter().zip(in_turn).zip(further);
-    all.map(|((at_once, in_turn), further)| Turned { at_once, in_turn, further }).collect()
+    let sums = turns.iter().map(|one| one.sum());
+    let all = sums.zip(by_none).zip(at_once).zip(in_turn).zip(further);
+    all.map(|((((sum, by_none), at_once), in_turn), further)| Turned {
+        sum,
+        by_none,
+        at_once,
+        in_turn,
+        further,
+    })
+    .collect()
 }
 
 /// Folds what each has come to, where there is a budget for it, and adds up how many were folded.
@@ -81,7 +94,7 @@ fn once_more(
     for (one, state) in turns.iter().zip(states) {
         let folded = state.as_ref().ok();
         let question = folded.zip(budget(one));
-        asked.push(question.map(|(before, budget)| (one.version, &before.table, budget)));
+        asked.push(question.map(|(before, budget)| (one.folding, &before.table, budget)));
     }
     let questions: Vec<Question> = asked.iter().flatten().copied().collect();
     let mut answers = folds(&questions).into_iter();
@@ -103,13 +116,20 @@ fn added_up(before: &Folded, after: Folded) -> State {
 
 impl Turned {
     pub fn fault(&self) -> Fault {
-        let (at_once, in_turn, further) = match (&self.at_once, &self.in_turn, &self.further) {
-            (Ok(at_once), Ok(in_turn), Ok(further)) => (at_once, in_turn, further),
-            (Err(why), _, _) | (_, Err(why), _) | (_, _, Err(why)) => return Some(why.clone()),
-        };
+        let states = [&self.by_none, &self.at_once, &self.in_turn, &self.further];
+        if let Some(why) = states.into_iter().find_map(|state| state.as_ref().err()) {
+            return Some(why.clone());
+        }
+        let [by_none, at_once, in_turn, further] = states.map(|state| state.as_ref().unwrap());
         let in_turn_parts = in_turn.parts();
         if let Some(fault) = difference_of_parts(&at_once.parts(), &in_turn_parts) {
             return Some(format!("folding in turn is not folding by the sum: {fault}"));
+        }
+        let candidates = by_none.left;
+        let due = candidates.min(self.sum as usize);
+        if [in_turn.folded, in_turn.left] != [due, candidates - due] {
+            let (folded, left) = (in_turn.folded, in_turn.left);
+            return Some(format!("of {candidates} candidates it folds {folded}, {left} are left"));
         }
         if in_turn.left > 0 {
             return None;

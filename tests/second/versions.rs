@@ -42,14 +42,6 @@ impl Version {
             Version::Two => "write_lengths",
         }
     }
-
-    /// What its fold is called.
-    pub fn fold(self) -> &'static str {
-        match self {
-            Version::One => "fold",
-            Version::Two => "fold_weakest",
-        }
-    }
 }
 
 impl Display for Version {

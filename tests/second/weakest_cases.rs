@@ -2,12 +2,15 @@
 //! ones of many paths of which many are worth the same.
 
 use crate::cases::Cases;
+use crate::foldings::Folding;
 use crate::graphs;
 use crate::quick;
 use crate::random::Random;
 use crate::shapes::{self, Shape};
 use crate::table::Table;
 use crate::versions::Version;
+
+const BY_WEAKEST: Folding = Folding::plain(Version::Two);
 
 /// The counts of small superbubbles.
 const FEW_COUNTS: [u64; 3] = [0, 1, 2];
@@ -22,7 +25,7 @@ impl Cases {
         for (many, least, most) in [(3_500, 5, 10), (150, 11, 60), (20, 80, 120)] {
             for _ in 0..many {
                 self.fold_exactly(
-                    Version::Two,
+                    BY_WEAKEST,
                     "many paths of which some are worth the same",
                     |random| {
                         let n = random.between(least, most);
@@ -39,7 +42,7 @@ impl Cases {
         let inner = shape.n - 2;
         for choice in 0..FEW_COUNTS.len().pow(inner as u32) {
             let name = "every small superbubble with every choice of counts";
-            self.fold_exactly(Version::Two, name, |random| numbered(random, shape, choice));
+            self.fold_exactly(BY_WEAKEST, name, |random| numbered(random, shape, choice));
         }
     }
 }

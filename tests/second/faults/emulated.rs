@@ -44,7 +44,8 @@ pub fn all<'a>([look, show, list, judge, fold]: [&'a [String]; 5]) -> Vec<Check<
             (show, ProgramRun::show(stream.clone())),
             (list, ProgramRun::list(stream.clone())),
             (judge, ProgramRun::judge("0", "1", stream)),
-            (fold, ProgramRun::fold(1, "in.sbt", "out.sbt", files)),
+            (fold, ProgramRun::fold(1, "in.sbt", "out.sbt", files.clone())),
+            (fold, ProgramRun::fold_rings(1, "in.sbt", "out.sbt", files)),
         ];
         for (program, run) in runs {
             let title = format!("{}, and the answer is one write", run.command());

@@ -7,9 +7,10 @@ use crate::faults::folders::{demand_same, Entry, Files, Folder};
 use crate::faults::outcome::{demand_ended, Due};
 use crate::faults::story::{Step, Story, NEW};
 use crate::faults::traced::{self, Ended, Plan, Start, Stream};
-use crate::graphs::lettered;
+use crate::foldings::Rings;
+use crate::graphs::{lettered, SHRINKING};
 use crate::image;
-use crate::runs::ProgramRun;
+use crate::runs::{words_of_fold, ProgramRun};
 use std::error::Error;
 use std::io;
 
@@ -18,6 +19,7 @@ pub struct Scene<'a> {
     pub name: &'static str,
     /// The program `fold`, by its words.
     pub program: &'a [String],
+    pub rings: Rings,
     pub budget: u32,
     pub input: &'static str,
     pub output: String,
@@ -33,6 +35,7 @@ impl<'a> Scene<'a> {
         Scene {
             name,
             program,
+            rings: Rings::Refused,
             budget: 1,
             input: "in.sbt",
             output: output.to_string(),
@@ -69,6 +72,13 @@ impl<'a> Scene<'a> {
         Scene { name: "refused", ..scene }
     }
 
+    /// The table has a cycle, and `--rings` takes it.
+    pub fn of_rings(program: &'a [String]) -> Scene<'a> {
+        let table = Entry::file(0o644, image::of_table(&SHRINKING.table()));
+        let scene = Scene::out_is_old(program).and("in.sbt", table);
+        Scene { name: "rings", rings: Rings::Taken, ..scene }
+    }
+
     /// The same with this file.
     pub fn and(mut self, name: &str, entry: Entry) -> Scene<'a> {
         self.files.insert(name.to_string(), entry);
@@ -80,7 +90,8 @@ impl<'a> Scene<'a> {
     }
 
     pub fn run(&self, folder: &Folder, plan: Plan) -> io::Result<Ended> {
-        let words = [self.budget.to_string(), self.input.to_string(), self.output.clone()];
+        let budget = self.budget.to_string();
+        let words = words_of_fold(self.rings, &budget, self.input, &self.output);
         let start = Start {
             words: [self.program, &words].concat(),
             folder: folder.path(""),
@@ -106,7 +117,7 @@ impl<'a> Scene<'a> {
     /// What is due where these files stand before. Whoever made IN makes a new OUT, too.
     pub fn due(&self, old: Files) -> Due {
         let input = &old[self.input];
-        let (text, image) = folded(&input.content, self.budget);
+        let (text, image) = folded(self.rings, &input.content, self.budget);
         let new = image.map(|content| {
             let fresh = Entry { owner: input.owner, ..Entry::file(0o666 & !self.umask, vec![]) };
             let out = old.get(&self.output).unwrap_or(&fresh).clone();
@@ -138,9 +149,9 @@ impl<'a> Scene<'a> {
 }
 
 /// What `fold` prints for an image, and the image that it writes, where it does.
-pub fn folded(stream: &[u8], budget: u32) -> (String, Option<Vec<u8>>) {
+pub fn folded(rings: Rings, stream: &[u8], budget: u32) -> (String, Option<Vec<u8>>) {
     let files = vec![("in".to_string(), stream.to_vec())];
-    let run = ProgramRun::fold(budget, "in", "out", files);
+    let run = ProgramRun::fold_by_word(rings, &budget.to_string(), budget, "in", "out", files);
     let written = run.after.iter().find(|(name, _)| name == "out");
     (run.text().to_string(), written.map(|(_, image)| image.clone()))
 }

@@ -58,16 +58,19 @@ fn too_little<'a>(program: &'a [String], run: ProgramRun, kilobytes: u32) -> Che
 }
 
 /// Each program, by its words, on its largest tables: the most edges, the longest path, and the most
-/// edges with lengths.
+/// edges with lengths; and a ring of nests.
 pub fn all<'a>([look, show, list, judge, fold]: [&'a [String]; 5]) -> Vec<Check<'a>> {
     let judge_run = |stream: &[u8]| ProgramRun::judge("0", "2041", stream.to_vec());
-    let fold_run = |budget, stream: &[u8]| {
-        let files = vec![("in.sbt".to_string(), stream.to_vec())];
-        ProgramRun::fold(budget, "in.sbt", "out.sbt", files)
-    };
+    let files = |stream: &[u8]| vec![("in.sbt".to_string(), stream.to_vec())];
+    let fold_run =
+        |budget, stream: &[u8]| ProgramRun::fold(budget, "in.sbt", "out.sbt", files(stream));
+    let rings_run =
+        |budget, stream: &[u8]| ProgramRun::fold_rings(budget, "in.sbt", "out.sbt", files(stream));
     let [ladder, chain] = [shapes::ladder(), shapes::chain(2_048)].map(|shape| shape.counted(1));
     let with_lengths = image::with_lengths(&ladder, &[u16::MAX; MOST_VERTICES]);
     let mut checks = vec![stated()];
+    let ring = image::of_table(&shapes::nests_in_a_ring(20, 34).counted(1));
+    checks.push(enough(fold, rings_run(u32::MAX, &ring), FOLD));
     for stream in [image::of_table(&ladder), image::of_table(&chain), with_lengths] {
         checks.push(enough(look, ProgramRun::look(stream.clone()), LOOK));
         checks.push(enough(show, ProgramRun::show(stream.clone()), READERS));
@@ -75,6 +78,7 @@ pub fn all<'a>([look, show, list, judge, fold]: [&'a [String]; 5]) -> Vec<Check<
         checks.push(enough(judge, judge_run(&stream), READERS));
         for budget in [0, u32::MAX] {
             checks.push(enough(fold, fold_run(budget, &stream), FOLD));
+            checks.push(enough(fold, rings_run(budget, &stream), FOLD));
         }
         if !is_emulated(look) {
             let run = ProgramRun::look(stream.clone());

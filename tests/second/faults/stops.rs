@@ -123,7 +123,7 @@ type Table = (String, Vec<u8>);
 fn two_tables(fold: &Rehearsed, place: usize, budget: u32) -> Result<(Table, Table), &'static str> {
     let scene = &fold.scene;
     let table_of = |stream: &[u8], budget| {
-        let (text, image) = folded(stream, budget);
+        let (text, image) = folded(scene.rings, stream, budget);
         image.map(|image| (text, image)).ok_or("the table is refused")
     };
     let first = &scene.files[scene.input].content;
