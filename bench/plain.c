@@ -332,24 +332,27 @@ static _Bool has_cycle(const u32 *starts, const u32 *targets, usize n) {
     return 0;
 }
 
-// Whether a path leads from one vertex to another: breadth first, each vertex in the queue once, and asked once a row.
+// Whether a path leads from one vertex to another: breadth first, each vertex in the queue once, and ended where the
+// other one is met.
 _Bool plain_reaches(const u32 *starts, const u32 *targets, usize n, u32 from, u32 to) {
+    if (from == to) return 1;
     u8 marks[MOST];
     u16 queue[MOST];
     memset(marks, 0, n);
     marks[from] = 1;
     queue[0] = from;
     usize tail = 1;
-    for (usize head = 0; head < tail && !marks[to]; head++) {
+    for (usize head = 0; head < tail; head++) {
         u32 v = queue[head];
         for (usize e = starts[v]; e < starts[v + 1]; e++) {
             u32 u = targets[e];
+            if (u == to) return 1;
             if (marks[u]) continue;
             marks[u] = 1;
             queue[tail++] = u;
         }
     }
-    return marks[to];
+    return 0;
 }
 
 // Whether a superbubble with an interior is never itself folded: it has a bare edge, and its exit reaches its entrance.

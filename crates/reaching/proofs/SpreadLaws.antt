@@ -84,29 +84,31 @@ module _ {marks queue : List ℕ} {tail u : ℕ} (q : Queued marks queue tail) (
   }
 
 -- none of a row is passed yet
-pub spread-none : {row marks queue : List ℕ} {tail : ℕ} → Queued marks queue tail → Spread row queue tail 0 marks queue tail
+pub spread-none : {row marks queue : List ℕ} {tail to : ℕ} → Queued marks queue tail → Spread row queue tail to 0 marks queue tail
 spread-none q = record {
   queued = q;
   longer = omega arith;
   kept = λ i l. refl;
   listed = λ i l m. absurd (omega arith);
   passed = λ j l. absurd (omega arith);
+  unmet = λ j l. absurd (omega (arith, l));
 }
 
-module _ {row queue marks′ queue′ : List ℕ} {tail k tail′ : ℕ} (s : Spread row queue tail k marks′ queue′ tail′) where
+module _ {row queue marks′ queue′ : List ℕ} {tail to k tail′ : ℕ} (s : Spread row queue tail to k marks′ queue′ tail′) (other : getD row k 0 ≢ to) where
   -- the next is marked already
-  pub spread-marked : Marked marks′ (getD row k 0) → Spread row queue tail (k + 1) marks′ queue′ tail′
+  pub spread-marked : Marked marks′ (getD row k 0) → Spread row queue tail to (k + 1) marks′ queue′ tail′
   spread-marked m = record {
     queued = s .queued;
     longer = s .longer;
     kept = s .kept;
     listed = s .listed;
     passed = below-more _ _ (s .passed) m;
+    unmet = below-more _ _ (s .unmet) other;
   }
 
   -- the next is marked and queued
   pub spread-more : k < length row → getD row k 0 < vertex-limit → getD marks′ (getD row k 0) 0 ≡ 0
-      → Spread row queue tail (k + 1) (set marks′ (getD row k 0) 1) (set queue′ tail′ (getD row k 0)) (tail′ + 1)
+      → Spread row queue tail to (k + 1) (set marks′ (getD row k 0) 1) (set queue′ tail′ (getD row k 0)) (tail′ + 1)
   spread-more l h free =
       let u = getD row k 0 in
       record {
@@ -118,4 +120,5 @@ module _ {row queue marks′ queue′ : List ℕ} {tail k tail′ : ℕ} (s : Sp
           | no n ↦ rw (queued-other (s .queued) h free i n) (s .listed i a (omega arith))
         ];
         passed = below-more _ _ (λ j b. still-marked (s .queued) h free (getD row j 0) (s .passed j b)) (marked-here (s .queued) h free);
+        unmet = below-more _ _ (s .unmet) other;
       }
