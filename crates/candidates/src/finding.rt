@@ -1,6 +1,6 @@
 // One search from each vertex that is not interior to a superbubble taken before. Where it gives a superbubble with an interior, that interior is ruled out:
-// no candidate begins in it. Where rings are taken, one that is skipped rules out nothing. In `exits` stands, for each of n vertices, the exit of the candidate that it is the entrance of, or n, which is no vertex's
-// number, for none. A vertex that no search has come to has 0 there, which is not n: it is not ruled out.
+// no candidate begins in it. Where rings are taken, one that is skipped rules out nothing. In `exits` stands, for each of n vertices, the exit of the candidate that it is
+// the entrance of, or n, which is no vertex's number, for none. A vertex that no search has come to has 0 there, which is not n: it is not ruled out.
 ghost use Prim.Native.Nat.{_+_, _<_};
 ghost use mathlib.Core.Path.{_≡_};
 ghost use lib.ListN.{length};

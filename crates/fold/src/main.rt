@@ -44,7 +44,7 @@ fn fold_named(rings: Rings, i: usize, budget: u32, room: &mut [u8])
 fn usage() {
     io::write_all(
         libc::STDOUT_FILENO,
-        b"usage: fold [--rings] BUDGET IN OUT: folds the first BUDGET, 0 to 4294967295, outermost superbubbles of the table in the file IN, and writes the file OUT; with --rings a table with cycles is taken, too\n",
+        b"usage: fold [--rings] BUDGET IN OUT: folds the first BUDGET, 0 to 4294967295, outermost superbubbles of the table in the file IN, and writes the file OUT; --rings takes cycles, too\n",
     );
 }
 

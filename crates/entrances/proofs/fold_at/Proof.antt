@@ -55,7 +55,9 @@ same-length-2 c = search needs
 returns : tie.Need-returns
 returns c =
     let c-entry = entry (after-search (c .before .before) .before) in
-    absurd (entrance-found (candidates-lawful (c-entry .args .mode .rings)) (c-entry .pre .0) (c-entry .pre .1) (rw (c .enum-told .given .1) at (c .before .before .before .before .before .before .search .ensures)))
+    absurd
+    (entrance-found (candidates-lawful (c-entry .args .mode .rings)) (c-entry .pre .0) (c-entry .pre .1)
+    (rw (c .enum-told .given .1) at (c .before .before .before .before .before .before .search .ensures)))
 
 slice-reshare-prefix-keep : tie.Need-slice-reshare-prefix-keep
 slice-reshare-prefix-keep c = sought (c .before) .searched .room
