@@ -9,6 +9,9 @@ use lib.ListN.{length, getD}
 use Rattle.table.specs.Verdict.{Verdict}
 use Rattle.table.specs.Table.{countSum, Table, edges, SoundTable}
 use Rattle.table.proofs.RowLaws.{edges-below}
+use Rattle.table.proofs.VerdictLaws.{met-is-passed}
+use Rattle.layout.specs.Image.{tableOf}
+use Rattle.image.specs.Contracts.{imageDemands}
 use Rattle.bubble.specs.Cycle.{Cyclic}
 use Rattle.bubble.specs.Superbubble.{F, Interior}
 use Rattle.rule.specs.Lists.{Graph, Counts, Listing}
@@ -16,18 +19,21 @@ use Rattle.rule.specs.Fold.{Rule, kept-shares, Entrance, Item, GraphFolded, bud
 use Rattle.rule.specs.Rings.{Skipped, RingCandidate}
 use Rattle.rule.specs.Laws.{RuleLaws}
 use Rattle.rule.specs.Tables.{count-of}
-use Rattle.rule.specs.Way.{fold-with, plain, ringed, the-fold}
+use Rattle.rule.specs.Way.{noCycle, fold-with, plain, ringed, the-fold}
 use Rattle.rule.specs.declared.Choosing.{Choosing}
-use Rattle.rule.specs.declared.Rings.the-variants.{Taken}
+use Rattle.rule.specs.declared.Rings.the-variants.{Refused, Taken}
 use Rattle.rule.proofs.CandidatesListed.{candidates-listed}
 use Rattle.rule.proofs.FoldExists as exists
 use Rattle.rule.proofs.Skipped.{skipped-inside, skipped-counts}
 use Rattle.rule.proofs.TableDemand.{no-candidate-left}
-use Rattle.rule.proofs.TheFold.{fold-with-lawful, the-fold-lawful}
+use Rattle.rule.proofs.TheFold.{acyclic-folds, fold-with-lawful, the-fold-lawful}
+use Rattle.rule.proofs.WithoutCycle.{table-folded-ring}
 use Rattle.folding.specs.declared.folds.Folded.{Folded}
 use Rattle.folding.specs.Folding.{foldDemands, FoldDone}
 use Rattle.folding.proofs.Demand.{fold-determined}
 use Rattle.folding.proofs.RingLaws.{done-without-cycle}
+use Rattle.fold_bytes.specs.declared.Answers.{Answers}
+use Rattle.fold_bytes.specs.Image.{fold-of, FoldAnswer}
 use Rattle.promises.specs.Calls.{FoldCall, CallsInTurn}
 use Rattle.promises.specs.InARow.{numbers}
 use Rattle.promises.proofs.Decided.{edge-decided}
@@ -35,6 +41,7 @@ use Rattle.promises.proofs.LookAndLoad.{never}
 use Rattle.promises.proofs.AnyWay.{turns, calls-as-one, total-stays, further-call}
 use Rattle.promises.proofs.Demand2.{fold-accepted}
 use Rattle.promises.proofs.Shared.{applied}
+use Rattle.promises.proofs.Coincide.{fold-answers-coincide}
 
 -- ---- Numbers: 1 to 7, then 8,
 pub rings-order : (by : Choosing) (table lent : Table) → numbers (foldDemands (the-fold (ringed by)) table lent) ≡ 1 ∷ 2 ∷ 3 ∷ 4 ∷ 5 ∷ 6 ∷ 7 ∷ 8 ∷ []
@@ -118,3 +125,28 @@ pub same-without-cycle : (by : Choosing) {table lent after₁ after₂ : Table} 
     → FoldDone (the-fold (plain by)) table budget lent after₁ answer₁ → FoldDone (the-fold (ringed by)) table budget lent after₂ answer₂
     → (answer₁ ≡ answer₂) × (after₁ ≡ after₂)
 same-without-cycle by none fold rings = fold-determined (the-fold-lawful (ringed by)) (done-without-cycle none fold) rings
+
+-- So do the programs: `fold` and `fold --rings` print and write the same bytes.
+pub same-bytes-without-cycle : (image : List ℕ) {out out₁ out₂ new new₁ new₂ : List ℕ} {budget : ℕ} {answers₁ answers₂ : Answers}
+    → (Cyclic (edges (tableOf image .rows)) → ⊥) → FoldAnswer (fold-of Refused) image budget out out₁ new new₁ answers₁
+    → FoldAnswer (fold-of Taken) image budget out out₂ new new₂ answers₂ → (answers₁ ≡ answers₂) × (out₁ ≡ out₂) × (new₁ ≡ new₂)
+same-bytes-without-cycle image {out} {out₁} {new = new} {new₁ = new₁} {budget = budget} {answers₁ = answers₁} none fold rings =
+    fold-answers-coincide Taken image taking rings
+  where
+    taking : FoldAnswer (fold-of Taken) image budget out out₁ new new₁ answers₁
+    taking = record {
+      printed = fold .printed;
+      written = fold .written;
+      verdict = met-is-passed (imageDemands image) (noCycle (tableOf image .rows)) [] (answers₁ .number) none (fold .verdict);
+      taken = λ e. let at = fold .taken e in record {
+        result = at .result;
+        folded = at .folded;
+        left = at .left;
+        table-folded = table-folded-ring (acyclic-folds none) (at .table-folded);
+        spelled = at .spelled;
+        image = at .image;
+      };
+      refused = fold .refused;
+      line-front = fold .line-front;
+      image-front = fold .image-front;
+    }

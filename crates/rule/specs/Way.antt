@@ -33,7 +33,7 @@ abbrev pub asked-of : Rings → Rows → List Demand
 asked-of Refused rows = noCycle rows ∷ []
 asked-of Taken rows = []
 
--- the outermost superbubbles with an interior; where rings are taken, those among them that can be folded in every graph
+-- the outermost superbubbles with an interior; where rings are taken, the outermost of those that are not skipped
 abbrev pub candidates-of : Rings → CandidateSet
 candidates-of Refused = Candidate
 candidates-of Taken = RingCandidate
