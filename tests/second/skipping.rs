@@ -1,5 +1,5 @@
 //! The superbubbles with an interior among which a fold that takes rings finds its candidates
-//! (docs/RULES.md, Fold), and wrong rules by which it could do so, which the cases must tell from the right
+//! (docs/RULES.md, Rings), and wrong rules by which it could do so, which the cases must tell from the right
 //! one.
 
 use crate::definition;
