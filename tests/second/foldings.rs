@@ -1,5 +1,5 @@
-//! The four folds (docs/RULES.md, Fold, Rings): each goes by the rule of a version, and refuses a table that has
-//! a cycle or takes it.
+//! The four folds (docs/RULES.md, Fold, Rings): each goes by the rule of a version, and refuses a table
+//! that has a cycle or takes it.
 
 use crate::versions::Version;
 
