@@ -81,14 +81,14 @@ module _ {rows : Rows} {order : List ℕ} {s t k : ℕ} (visited : Visited (rows
   skipped-none : Skips (edges rows) s t k → (x : ℕ) → Passable (edges rows) s x → ⊥
   skipped-none skips x p =
       let q : x ≡ t = exit-unique (p .superbubble) (visited .superbubble) in
-      passed-once p (rw q (skips .bare-edge)) (rw q (skips .way-back))
+      passed-once p (rw q (skips .leads-back .bare-edge)) (rw q (skips .leads-back .way-back))
 
   -- and one that is not skipped is
   passable : 2 ≤ k → (Skips (edges rows) s t k → ⊥) → Passable (edges rows) s t
   passable h none = record {
     superbubble = visited .superbubble;
     interior = filled h .interior;
-    not-skipped = λ q. none (record { inner = h; bare-edge = q .bare-edge; way-back = q .way-back });
+    not-skipped = λ q. none (record { inner = h; leads-back = record { bare-edge = q .bare-edge; way-back = q .way-back } });
   }
 
 -- what is left of what a search from s found: the visiting order of a superbubble that is taken if it has an interior, or that none begins at s that is taken

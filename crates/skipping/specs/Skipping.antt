@@ -15,11 +15,15 @@ pub record Pair (starts targets : List ℕ) (s t : ℕ) : Type 0 where
   pub entrance : s < vertices starts
   pub exit : t < vertices starts
 
--- a bare edge, a way back, and an interior: more than the entrance was visited on the way to the exit
-pub record Skips (E : Graph) (s t visited : ℕ) : Type 0 where
-  pub inner : 2 ≤ visited
+-- a bare edge, and a way back
+pub record LeadsBack (E : Graph) (s t : ℕ) : Type 0 where
   pub bare-edge : E s t
   pub way-back : Reaches E t s
+
+-- and an interior: more than the entrance was visited on the way to the exit
+pub record Skips (E : Graph) (s t visited : ℕ) : Type 0 where
+  pub inner : 2 ≤ visited
+  pub leads-back : LeadsBack E s t
 
 -- what a search from s found: an exit that is a vertex, or nothing
 abbrev pub Found : List ℕ → List ℕ → ℕ → Exit → Type 0

@@ -1,48 +1,64 @@
 -- `skipping::admit` meets its contract. Assumes nothing.
-use Rattle.skipping.specs.Skipping.{Admitted.unasked, Admitted.nothing, Admitted.passed, Admitted.skipped}
+use Rattle.skipping.specs.Skipping.{Admitted.unasked, Admitted.passed, Admitted.skipped}
+use Rattle.skipping.proofs.SkipLaws.{nothing-left, few-left, found-pair}
 use borrow.Author.Needs.{needs}
 use Rattle.skipping.proofs.admit.Statement.{statement}
 use Rattle.skipping.proofs.admit.Tie as tie
 
-enum-told : tie.Need-enum-told
-enum-told c = search needs
+-- The places that the needs look back to, each seen from a place nearer to them.
+abbrev entry : tie.After-exit → tie.Start
+entry c = c .before .before .before .before
 
-enum-told-2 : tie.Need-enum-told-2
-enum-told-2 c = search needs
-
-returns : tie.Need-returns
-returns c = rw (c .enum-told2 .given .1) unasked
+abbrev after-exit : tie.After-enum-told2 → tie.After-exit
+after-exit c = c .before .before .before .before
 
 enum-known-exit : tie.Need-enum-known-exit
 enum-known-exit c = search needs
 
+enum-told : tie.Need-enum-told
+enum-told c = search needs
+
+returns : tie.Need-returns
+returns c = rw (c .enum-told .given .1) (nothing-left (c .before .before .before .before .args .rings))
+
+returns-2 : tie.Need-returns-2
+returns-2 c = rw (c .before .before .exit .given .1) (few-left (entry (c .before .before) .args .rings) (c .if1 .taken))
+
+enum-told-2 : tie.Need-enum-told-2
+enum-told-2 c = search needs
+
 enum-told-3 : tie.Need-enum-told-3
 enum-told-3 c = search needs
 
-returns-2 : tie.Need-returns-2
-returns-2 c = rw (c .before .before .enum-told .given .1, c .enum-told3 .given .1) nothing
-
-skips-requires : tie.Need-skips-requires
-skips-requires c κs = rw (c .before .exit .given .1) at (c .before .before .before .before .before .before .before .pre)
-
 returns-3 : tie.Need-returns-3
-returns-3 c =
-    rw (c .before .before .before .before .before .enum-told .given .1, c .before .before .before .exit .given .1) (skipped (rw (c .if1 .taken) at (c .before .skips .ensures)))
+returns-3 c = rw (c .enum-told3 .given .1, c .before .before .before .before .exit .given .1) unasked
+
+leads-back-requires : tie.Need-leads-back-requires
+leads-back-requires c κs = let st = entry (c .before .before .before .before) in
+    found-pair (st .args .starts .now) (st .args .targets .now) (st .args .s) (after-exit c .exit .given .1) (st .pre)
 
 returns-4 : tie.Need-returns-4
 returns-4 c =
-    rw (c .before .before .before .before .before .enum-told .given .1, c .before .before .before .exit .given .1) (passed (rw (c .if1 .left) at (c .before .skips .ensures)))
+    let taken = c .before .before in
+    rw (taken .enum-told2 .given .1, taken .before .before .before .before .exit .given .1)
+    (skipped (record { inner = taken .before .before .if1 .left; leads-back = rw (c .if2 .taken) at (c .before .leads-back .ensures) }))
+
+returns-5 : tie.Need-returns-5
+returns-5 c =
+    let taken = c .before .before in
+    rw (taken .enum-told2 .given .1, taken .before .before .before .before .exit .given .1) (passed (λ skips. (rw (c .if2 .left) at (c .before .leads-back .ensures)) (skips .leads-back)))
 
 pub admit-spec : {M : Type 1} → statement M
 admit-spec =
     tie.close
     (tie.spec
-    enum-told
-    enum-told-2
-    returns
     enum-known-exit
-    enum-told-3
+    enum-told
+    returns
     returns-2
-    skips-requires
+    enum-told-2
+    enum-told-3
     returns-3
-    returns-4)
+    leads-back-requires
+    returns-4
+    returns-5)
