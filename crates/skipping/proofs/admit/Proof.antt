@@ -34,19 +34,19 @@ returns-3 : tie.Need-returns-3
 returns-3 c = rw (c .enum-told3 .given .1, c .before .before .before .before .exit .given .1) unasked
 
 leads-back-requires : tie.Need-leads-back-requires
-leads-back-requires c κs = let st = entry (c .before .before .before .before) in
+leads-back-requires c κs = let st = entry (after-exit c) in
     found-pair (st .args .starts .now) (st .args .targets .now) (st .args .s) (after-exit c .exit .given .1) (st .pre)
 
 returns-4 : tie.Need-returns-4
 returns-4 c =
     let taken = c .before .before in
-    rw (taken .enum-told2 .given .1, taken .before .before .before .before .exit .given .1)
+    rw (taken .enum-told2 .given .1, after-exit taken .exit .given .1)
     (skipped (record { inner = taken .before .before .if1 .left; leads-back = rw (c .if2 .taken) at (c .before .leads-back .ensures) }))
 
 returns-5 : tie.Need-returns-5
 returns-5 c =
     let taken = c .before .before in
-    rw (taken .enum-told2 .given .1, taken .before .before .before .before .exit .given .1) (passed (λ skips. (rw (c .if2 .left) at (c .before .leads-back .ensures)) (skips .leads-back)))
+    rw (taken .enum-told2 .given .1, after-exit taken .exit .given .1) (passed (λ skips. (rw (c .if2 .left) at (c .before .leads-back .ensures)) (skips .leads-back)))
 
 pub admit-spec : {M : Type 1} → statement M
 admit-spec =
