@@ -151,7 +151,8 @@ walk-coincides = walk-determined
 
 -- `search::search`, whatever stood in the order: the exit and the pending parents. Of the order the vertices that it shows,
 pub search-coincides : (starts targets pending order order′ pending₁ order₁ pending₂ order₂ : List ℕ) (s : ℕ) (exit₁ exit₂ : Exit)
-    → Sought starts targets pending order pending₁ order₁ s exit₁ → Sought starts targets pending order′ pending₂ order₂ s exit₂ → (exit₁ ≡ exit₂) × (pending₁ ≡ pending₂)
+    → Sought starts targets pending order pending₁ order₁ s exit₁ → Sought starts targets pending order′ pending₂ order₂ s exit₂
+    → (exit₁ ≡ exit₂) × (pending₁ ≡ pending₂)
 search-coincides starts targets pending order order′ pending₁ order₁ pending₂ order₂ s exit₁ exit₂ a b =
     (answer-unique starts targets order₁ order₂ s exit₁ exit₂ (a .searched) (b .searched), a .whole ∙ sym (b .whole))
 

@@ -108,7 +108,8 @@ no-interior v i = let (a, b) = between (i .inside) in elim (ℕ-discrete v 1) [ 
 pairs : {s t : ℕ} → Superbubble E s t → ((s ≡ 0) × (t ≡ 4)) ⊎ ((s ≡ 1) × (t ≡ 2))
 pairs {s} {t} b = let at = listed .1 .whole s t b in which (at .line) (at .within) (at .entrance) (at .exit)
   where
-    which : (i : ℕ) → i < 2 → getD (0 ∷ 4 ∷ 1 ∷ 2 ∷ []) (2 * i) 0 ≡ s → getD (0 ∷ 4 ∷ 1 ∷ 2 ∷ []) (2 * i + 1) 0 ≡ t → ((s ≡ 0) × (t ≡ 4)) ⊎ ((s ≡ 1) × (t ≡ 2))
+    which : (i : ℕ) → i < 2 → getD (0 ∷ 4 ∷ 1 ∷ 2 ∷ []) (2 * i) 0 ≡ s → getD (0 ∷ 4 ∷ 1 ∷ 2 ∷ []) (2 * i + 1) 0 ≡ t
+        → ((s ≡ 0) × (t ≡ 4)) ⊎ ((s ≡ 1) × (t ≡ 2))
     which zero h q r = inl (sym q, sym r)
     which (suc zero) h q r = inr (sym q, sym r)
     which (suc (suc i)) h q r = absurd (let none : ⊥ = omega arith in none)

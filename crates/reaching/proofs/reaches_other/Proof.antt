@@ -72,7 +72,8 @@ spreads c = rw (c .before .before .before .row .ensures) at (c .spread .ensures)
 returns : tie.Need-returns Inv-loop μ-loop
 returns c =
     let inside = in-loop (c .before) in
-    ⊎-elim (λ met. next-holds (entry inside .pre .asked) (inside .before .loop .inv) (inside .loop-test .taken) (met .1)) (λ none. absurd (let no : ⊥ = omega (arith, none .0, c .if1 .taken) in no))
+    ⊎-elim (λ met. next-holds (entry inside .pre .asked) (inside .before .loop .inv) (inside .loop-test .taken) (met .1))
+    (λ none. absurd (let no : ⊥ = omega (arith, none .0, c .if1 .taken) in no))
     (spreads (c .before))
 
 add-head : tie.Need-add-head Inv-loop μ-loop
