@@ -1,5 +1,5 @@
 -- Slices that were lent for a table, before a call and after it. Assumes nothing.
-use Rattle.std.specs.Prelude.{ℕ, ◌+◌, ◌≡◌, List, ◌++◌, take, drop}
+use Rattle.std.specs.Prelude.{ℕ, ◌+◌, ◌≡◌, ◌++◌, take, drop}
 use Rattle.table.specs.Table.{Table}
 
 -- a table of n vertices and m edges stands at the fronts of the slices, and what stood behind it is as it was

@@ -1,4 +1,6 @@
 // A graph table over lent slices: its rows, and the check that gives the numbers 1 to 7 (docs/RULES.md, Numbers).
+#![tactic(auto)]
+
 mod checks;
 mod counts;
 mod limits;
