@@ -26,22 +26,26 @@ in_upto {v} (suc n) h = elim (ℕ_discrete v n) [ yes q ↦ mathlib.Core.List.Me
 
 pub upto_below : {v : ℕ} (n : ℕ) → Memᴰ v (upto n) → v < n
 unfolding upto
+upto_below {v = v} zero m = elim m [ ]
 upto_below (suc n) (mathlib.Core.List.Memᴰ.head q) = omega arith
 upto_below (suc n) (mathlib.Core.List.Memᴰ.tail m) = omega (arith, upto_below n m)
 
 module _ {A : Type 0} where
   -- a list less one entry
   remove : {a : A} (l : List A) → Memᴰ a l → List A
+  remove {a = a} [] m = elim m [ ]
   remove (x ∷ xs) (mathlib.Core.List.Memᴰ.head q) = xs
   remove (x ∷ xs) (mathlib.Core.List.Memᴰ.tail m) = x ∷ remove xs m
 
   length_remove : {a : A} (l : List A) (m : Memᴰ a l) → length l ≡ suc (length (remove l m))
   unfolding remove
+  length_remove {a = a} [] m = elim m [ ]
   length_remove (x ∷ xs) (mathlib.Core.List.Memᴰ.head q) = refl
   length_remove (x ∷ xs) (mathlib.Core.List.Memᴰ.tail m) = ap suc (length_remove xs m)
 
   in_remove : {a b : A} (l : List A) (m : Memᴰ a l) → b ≢ a → Memᴰ b l → Memᴰ b (remove l m)
   unfolding remove
+  in_remove {a = a} {b = b} [] m n k = elim m [ ]
   in_remove (x ∷ xs) (mathlib.Core.List.Memᴰ.head q) n (mathlib.Core.List.Memᴰ.head p) = absurd (n (p ∙ sym q))
   in_remove (x ∷ xs) (mathlib.Core.List.Memᴰ.head q) n (mathlib.Core.List.Memᴰ.tail k) = k
   in_remove (x ∷ xs) (mathlib.Core.List.Memᴰ.tail m) n (mathlib.Core.List.Memᴰ.head p) = mathlib.Core.List.Memᴰ.head p

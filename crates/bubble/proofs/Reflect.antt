@@ -121,6 +121,7 @@ put_distinct false x n d = d
 module _ {P : ℕ → Type 0} {p : ℕ → Bool} (d : (v : ℕ) → Decides (P v) (p v)) where
   pub in_sift : {v : ℕ} (l : List ℕ) → Memᴰ v l → P v → Memᴰ v (sift p l)
   unfolding sift
+  in_sift {v = v} [] m h = elim m [ ]
   in_sift (x ∷ xs) (Memᴰ.head q) h = put_first (sift p xs) (d x) (rw q at h) q
   in_sift (x ∷ xs) (Memᴰ.tail m) h = put_rest (p x) x (in_sift xs m h)
 
