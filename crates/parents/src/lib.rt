@@ -1,4 +1,6 @@
 // How many parents each vertex has: how often it stands among the targets.
+#![tactic(auto)]
+
 ghost use Rattle.std.specs.Prelude.{◌≤◌, ◌≡◌, length};
 ghost use Rattle.table.specs.Limits.{edge_limit};
 ghost use Rattle.table.specs.Table.{Below};

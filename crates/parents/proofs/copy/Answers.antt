@@ -1,0 +1,25 @@
+-- `parents::copy` meets its contract. The loop's invariant: the counts passed stand at the front. Assumes nothing.
+use native.Mathlib.Omega.{arith}
+use mathlib.Core.Path.{◌≡◌}
+use lib.ListN.{length}
+use Rattle.table.proofs.FrontLaws.{copied_more, copied_all, copied_length}
+use Rattle.parents.proofs.copy.Goals as goal
+
+pub bounds-out-v : goal.bounds-out-v
+bounds-out-v c = let at = c.loop-v in
+    let long = copied_length c.args.counts.now c.args.out.now at.out at.v (omega (arith, at.invariant.0)) c.requires at.invariant.1 in
+    omega (arith, c.requires, c.loop-v-test.true)
+
+pub loop-v-preserved : goal.loop-v-preserved
+loop-v-preserved c = let at = c.loop-v in
+    let more = c.loop-v-test.true in
+    (omega arith, copied_more c.args.counts.now c.args.out.now at.out at.v more (omega (arith, c.requires)) at.invariant.1)
+
+pub shape_of-out : goal.shape_of-out
+shape_of-out c = let at = c.loop-v in
+    copied_length c.args.counts.now c.args.out.now at.out at.v (omega (arith, at.invariant.0)) c.requires at.invariant.1
+
+pub returns : goal.returns
+returns c = let at = c.loop-v in
+    let all : at.v ≡ length c.args.counts.now = omega (arith, at.invariant.0) in
+    copied_all c.args.counts.now c.args.out.now at.out c.requires (rw all at at.invariant.1)
