@@ -1,4 +1,6 @@
 // The layout of a house image: its header, and numbers as little-endian bytes.
+#![tactic(auto)]
+
 mod bytes;
 mod header;
 
