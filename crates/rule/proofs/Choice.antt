@@ -3,7 +3,6 @@ use Prim.Native.Nat.{ℕ, ◌<◌}
 use mathlib.Core.Path.{◌≡◌, refl, sym, ap₂, ◌∙◌}
 use mathlib.Core.Logic.{◌⊎◌, inl, inr, ⊎_elim, ⊎_map}
 use mathlib.Core.List.{List, [], ◌∷◌, ◌++◌, Memᴰ}
-use native.Mathlib.Nat.{lt_irrefl}
 use native.Mathlib.Omega.{arith}
 use native.Mathlib.Decide.{ℕ_discrete, dec_lt}
 use Rattle.rule.specs.Lists.{Graph, Counts}
@@ -42,9 +41,13 @@ pub best_one : {score : Counts → List ℕ → ℕ} {E : Graph} {c : Counts} {s
 best_one {score} {c = c} {l = l} {k = k} a b =
     ⊎_elim (λ q. q) (λ h. absurd (⊎_elim (b.unbeaten l a.arm) (a.unbeaten k b.arm) h)) (one_beats (score c) a.arm b.arm)
 
+-- lists of which one is earlier differ
+earlier_differ : {l k : List ℕ} → Earlier l k → l ≡ k → ⊥
+earlier_differ (here {u = u} {v = v} {l = l} {k = k} h) q = let r : u ≡ v = cc in omega (arith, r)
+earlier_differ (later {v = v} {l = l} {k = k} o) q = let r : l ≡ k = cc in earlier_differ o r
+
 earlier_not_self : (l : List ℕ) → Earlier l l → ⊥
-earlier_not_self (v ∷ l) (here h) = lt_irrefl v h
-earlier_not_self (v ∷ l) (later o) = earlier_not_self l o
+earlier_not_self l o = earlier_differ o refl
 
 earlier_on : {l k m : List ℕ} → Earlier l k → Earlier k m → Earlier l m
 earlier_on (here {u = u} h) (here {v = v} g) = let i : u < v = omega arith in here i

@@ -26,15 +26,18 @@ follows_tail (later f) = Memᴰ.tail (follows_tail f)
 
 -- what follows is not the first
 pub follows_head : {x u v : ℕ} {l : List ℕ} → Follows (x ∷ l) u v → Memᴰ v l
+follows_head (later {u = u} {v = v} {l = []} f) = elim f [ ]
 follows_head here = Memᴰ.head refl
 follows_head (later {l = y ∷ l} f) = Memᴰ.tail (follows_head f)
 
 -- of different entries the first follows none
 first_follows_none : {u v : ℕ} {l : List ℕ} → Distinct l → Begins v l → Follows l u v → ⊥
+first_follows_none {u = u} {v = v} Rattle.bubble.specs.Distinct.empty x5 f = elim x5 [ ]
 first_follows_none (fresh n d) (begins q) f = n (Memᴰ.cast (sym q) (follows_head f))
 
 -- only one follows each
 pub one_follows : {u v w : ℕ} {l : List ℕ} → Distinct l → Follows l u v → Follows l u w → v ≡ w
+one_follows {u = u} {v = v} {w = w} Rattle.bubble.specs.Distinct.empty f g = elim f [ ]
 one_follows {u} {v} {w} (fresh {a = x} {l = l} n d) f g =
     ⊎_elim (λ q. ⊎_elim (λ r. begins_one q.1 r.1) (λ h. absurd (again q.0 h)) (follows_cases g))
     (λ h. ⊎_elim (λ r. absurd (again r.0 h)) (one_follows d h) (follows_cases g)) (follows_cases f)
@@ -44,6 +47,7 @@ one_follows {u} {v} {w} (fresh {a = x} {l = l} n d) f g =
 
 -- and each follows only one
 pub follows_one : {u v w : ℕ} {l : List ℕ} → Distinct l → Follows l v u → Follows l w u → v ≡ w
+follows_one {u = u} {v = v} {w = w} Rattle.bubble.specs.Distinct.empty f g = elim f [ ]
 follows_one (fresh n d) f g =
     ⊎_elim (λ q. ⊎_elim (λ r. q.0 ∙ sym r.0) (λ h. absurd (first_follows_none d q.1 h)) (follows_cases g))
     (λ h. ⊎_elim (λ r. absurd (first_follows_none d r.1 h)) (follows_one d h) (follows_cases g)) (follows_cases f)

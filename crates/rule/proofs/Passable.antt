@@ -10,7 +10,7 @@ use Rattle.bubble.proofs.Facts.{no_edge_from_exit}
 use Rattle.bubble.proofs.Unique.{superbubble_reversed, exit_unique, entrance_unique}
 use Rattle.bubble.proofs.Nesting.{Nested, nest, meets_nested}
 use Rattle.rule.specs.Lists.{Graph}
-use Rattle.rule.specs.Rings.{Skipped, Passable, RingCandidate}
+use Rattle.rule.specs.Rings.{Passable, RingCandidate}
 use Rattle.rule.specs.Way.{kind_of}
 use Rattle.rule.specs.Laws.{CandidateLaws}
 use Rattle.rule.specs.declared.Rings.TheVariants.{Taken}

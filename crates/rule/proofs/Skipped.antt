@@ -1,7 +1,7 @@
 -- What a fold does to a superbubble that is skipped: it looks the same from inside, with the same counts, unless a candidate around it or inside it is folded. Over any graph
 -- and for any rule. Assumes nothing.
 use Prim.Native.Nat.{ℕ}
-use mathlib.Core.Path.{◌≡◌, sym}
+use mathlib.Core.Path.{◌≡◌}
 use mathlib.Core.Logic.{◌≢◌, ⊎_elim}
 use mathlib.Core.List.{Memᴰ}
 use Rattle.bubble.specs.Superbubble.{F, F.start, F.on, Interior, Superbubble}

@@ -24,6 +24,7 @@ touched (i ∷ items) = (i.arm ++ i.dropped) ++ touched items
 
 in_touched : {v : ℕ} {i : Item} (items : List Item) → Memᴰ i items → Memᴰ v (i.arm ++ i.dropped) → Memᴰ v (touched items)
 unfolding touched
+in_touched {v = v} {i = i} [] x h = elim x [ ]
 in_touched {v} (j ∷ items) (Memᴰ.head q) h = Memᴰ.append_left (touched items) (subst (λ (x : Item). Memᴰ v (x.arm ++ x.dropped)) q h)
 in_touched (j ∷ items) (Memᴰ.tail m) h = Memᴰ.append_right (j.arm ++ j.dropped) (in_touched items m h)
 

@@ -44,7 +44,7 @@ module _ {E E' : Graph} {s t x y : ℕ} {N : Graph} (k : Thread E E' s t N) (o :
           inside_to_exit n (B-fewer (fewer k) b) (((bubbloid_of k).matching v).0 g.0.inside)
 
 -- a walk along the thread
-thread_walk : {E E' : Graph} {s t x y v : ℕ} {N : Graph} → Thread E E' s t N → Clear E s t x y → F E' x y s → s ≢ y → Reaches N s v
+thread_walk : {E E' : Graph} {s t x y : ℕ} {N : Graph} {v : ℕ} → Thread E E' s t N → Clear E s t x y → F E' x y s → s ≢ y → Reaches N s v
     → (v ≡ s) ⊎ Walk E' (F E' x y) s v
 thread_walk k o f n none = inl refl
 thread_walk {v = v} k o f n (then r m) =

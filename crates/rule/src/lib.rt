@@ -1,4 +1,5 @@
 // The fold rule of docs/RULES.md stands in specs/, and what follows from it, demand 3 among it, in proofs/. The code has the name of each fold.
+#![tactic(auto)]
 
 // How the kept path of a candidate is chosen: by the largest sum of the counts of its inner vertices, or by the largest least one.
 #[derive(Drop)]
