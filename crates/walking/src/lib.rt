@@ -1,4 +1,6 @@
 // The walk over a visited vertex's row: each edge takes one from its target's pending parents, and a target with none pending is queued.
+#![tactic(auto)]
+
 ghost use Rattle.std.specs.Prelude.{◌≡◌, length};
 ghost use Rattle.walking.specs.Walking.{EdgePassable, EdgePassed, Walkable, Walked};
 ghost use Rattle.walking.specs.Walking.{ready as walking_ready, waits as walking_waits};
