@@ -5,7 +5,6 @@ use mathlib.Core.Logic.{⊎_elim}
 use mathlib.Core.Bool.{Bool, true, false}
 use mathlib.Core.List.{List}
 use native.Mathlib.Omega.{arith}
-use lib.ListN.{get_or}
 use Rattle.visiting.specs.Visits.{Followed, Safe, Safe.safe, Visitable, RootDone, LeadsToCycle, VisitAnswer}
 use Rattle.visiting.proofs.SafeLaws.{safe_leads_to_none}
 

@@ -1,5 +1,7 @@
 // A visit of a vertex and, depth first, of what it leads to, each vertex's successors taken from its row alone. The vertices on the path stand in an array, so that
 // the stack does not grow with it.
+#![tactic(auto)]
+
 ghost use Rattle.std.specs.Prelude.{◌≤◌, length};
 ghost use Rattle.table.specs.Table.{Below};
 ghost use Rattle.visiting.specs.Visits.{PassedOver, NextOpen, Visitable, VisitAnswer};
