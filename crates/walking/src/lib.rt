@@ -6,7 +6,7 @@ ghost use Rattle.walking.specs.Walking.{EdgePassable, EdgePassed, Walkable, Walk
 ghost use Rattle.walking.specs.Walking.{ready as walking_ready, waits as walking_waits};
 
 // How far the queue reaches, and how many vertices wait: some but not all of their parents are visited.
-#[derive(Drop)]
+#[derive(Clone, Copy)]
 pub struct Front {
     pub tail: usize,
     pub waiting: usize,
