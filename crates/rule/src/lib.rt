@@ -2,21 +2,21 @@
 #![tactic(auto)]
 
 // How the kept path of a candidate is chosen: by the largest sum of the counts of its inner vertices, or by the largest least one.
-#[derive(Drop)]
+#[derive(Clone, Copy)]
 pub enum Choosing {
     Sum,
     Weakest,
 }
 
 // What a fold does with a table that has a directed cycle: it is refused, or taken, and superbubbles that cannot be folded in it are skipped.
-#[derive(Drop)]
+#[derive(Clone, Copy)]
 pub enum Rings {
     Refused,
     Taken,
 }
 
 // Which fold is asked for.
-#[derive(Drop)]
+#[derive(Clone, Copy)]
 pub struct Mode {
     pub rings: Rings,
     pub by: Choosing,
