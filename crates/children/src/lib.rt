@@ -1,5 +1,6 @@
 // The best child of a vertex: the one that a path to the exit gains the most by, and of several the smallest.
 #![tactic(auto)]
+
 ghost use Rattle.std.specs.Prelude.{min, ◌≡◌, length};
 ghost use Rattle.rule.specs.Tables.{count_of};
 ghost use Rattle.rule.specs.Next.{worth as next_worth};
