@@ -1,4 +1,6 @@
 // The search from an entrance to its exit, which list, judge and fold share.
+#![tactic(auto)]
+
 mod visits;
 
 pub use visits::search;

@@ -1,0 +1,9 @@
+-- `search::visits::undo` meets its contract. The loop's invariant: the first k of the order are visited. Assumes nothing.
+use Rattle.search.specs.Steps.{Lowered}
+use Rattle.search.proofs.visits.undo.Given as goal
+
+abbrev pub invariant-loop-k : goal.invariant-loop-k
+invariant-loop-k l = Lowered l.starts l.targets l.pending l.order l.k
+
+abbrev pub decreases-loop-k : goal.decreases-loop-k
+decreases-loop-k l = l.k
