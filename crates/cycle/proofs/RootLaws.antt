@@ -6,7 +6,7 @@ use mathlib.Core.Bool.{Bool, true, false}
 use mathlib.Core.List.{List}
 use native.Mathlib.Omega.{arith}
 use native.Mathlib.Decide.{ℕ_discrete}
-use lib.ListN.{length, get_or}
+use lib.ListN.{get_or}
 use Rattle.table.specs.Table.{vertices}
 use Rattle.table.proofs.RowLaws.{edges_below}
 use Rattle.bubble.specs.Cycle.{Cyclic}

@@ -1,4 +1,6 @@
 // The cycle test: a visit from one vertex after another, over the whole table or a part of it.
+#![tactic(auto)]
+
 ghost use Rattle.std.specs.Prelude.{◌≤◌, ◌≡◌, length};
 ghost use Rattle.table.specs.Limits.{vertex_limit};
 ghost use Rattle.table.specs.Verdict.{Says};
