@@ -1,5 +1,6 @@
 // The counts dropped beside a kept path, shared over its inner vertices: to each the quotient, and to the first ones, as many as the remainder, one more.
 #![tactic(auto)]
+
 ghost use Rattle.std.specs.Prelude.{◌+◌, ◌<◌, ◌≡◌};
 ghost use Rattle.rule.specs.Fold.{one_more};
 ghost use Rattle.sharing.specs.Sharing.{Shareable, Shared};
