@@ -1,4 +1,6 @@
 // A set of vertices kept as one bit a vertex, and its size.
+#![tactic(auto)]
+
 ghost use Rattle.std.specs.Prelude.{◌<◌};
 ghost use Rattle.table.specs.Limits.{vertex_limit};
 ghost use Rattle.vertices.specs.Vertices.{Words, Added, Size};
