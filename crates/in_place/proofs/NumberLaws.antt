@@ -18,6 +18,10 @@ number_at k (suc count) bytes (suc i) h =
     number_at k count (drop k bytes) i (omega arith)
     ∙ ap (λ (l : List ℕ). value_of (take k l)) (drop-drop (k * i) k bytes ∙ ap (λ (j : ℕ). drop j bytes) sum)
 
+-- which is the number that was read there
+pub number_read : (k count : ℕ) (bytes : List ℕ) (i : ℕ) {x : ℕ} → i < count → x ≡ value_of (take k (drop (k * i) bytes)) → get_or (numbers_of k count bytes) i 0 ≡ x
+number_read k count bytes i h e = number_at k count bytes i h ∙ sym e
+
 -- the numbers behind some of them stand in the bytes behind theirs,
 numbers_behind : (k count : ℕ) (bytes : List ℕ) (i rest : ℕ) → i + rest ≡ count → drop i (numbers_of k count bytes) ≡ numbers_of k rest (drop (k * i) bytes)
 numbers_behind k count bytes zero rest e = let all : rest ≡ count = omega (arith, e) in rw (all, mul-zero k) refl

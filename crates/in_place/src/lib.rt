@@ -1,5 +1,7 @@
 // The check of a table and its lengths where they stand in an image, without a copy of them: 3, 4, 5, 7 and 20. Each part of the image is handed on as its bytes
 // alone.
+#![tactic(auto)]
+
 ghost use Rattle.std.specs.Prelude.{◌+◌, ◌*◌, ◌≤◌, ◌≡◌, length};
 ghost use Rattle.table.specs.Limits.{vertex_limit, edge_limit, read_limit};
 ghost use Rattle.table.specs.Verdict.{Says, Verdict};
