@@ -1,4 +1,6 @@
 // Whether one vertex reaches another: a walk from the first, breadth first, that queues each vertex once and ends as soon as it meets the other.
+#![tactic(auto)]
+
 ghost use Rattle.table.specs.Verdict.{Says};
 ghost use Rattle.table.specs.Table.{Edge};
 ghost use Rattle.bubble.specs.Superbubble.{Reaches};
