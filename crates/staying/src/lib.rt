@@ -1,6 +1,7 @@
 // The new table of a fold, row by row: of each row all edges stay, only one, or none. Which of them says one number a vertex, in `next`: n, which is no
 // vertex's number, for the whole row; a vertex for the edge that leads to it; and a number above n, as n + 1, for none.
 #![tactic(auto)]
+
 ghost use Rattle.std.specs.Prelude.{◌+◌, ◌≤◌, length};
 ghost use Rattle.staying.specs.Staying.{staying, Put, TableReady, TableWritten};
 
