@@ -12,7 +12,7 @@ use Rattle.search.specs.declared.Exit.TheVariants.{At, Nothing}
 use Rattle.rule.specs.Lists.{Graph}
 use Rattle.rule.specs.declared.Rings.{Rings}
 use Rattle.rule.specs.declared.Rings.TheVariants.{Refused, Taken}
-use Rattle.skipping.specs.Skipping.{Pair, LeadsBack, Skips, Found, Admitted, Admitted.unasked, Admitted.nothing, Admitted.passed, Admitted.skipped}
+use Rattle.skipping.specs.Skipping.{Pair, LeadsBack, Found, Admitted, Admitted.unasked, Admitted.nothing, Admitted.passed, Admitted.skipped}
 
 -- with the bare edge the way back settles it
 pub by_way_back : (starts targets : List ℕ) (s t : ℕ) (r : Bool) → s < vertices starts → In t (row starts targets s)

@@ -1,5 +1,7 @@
 // Which superbubbles are skipped where rings are taken: those with an interior and a bare edge from entrance to exit whose exit also reaches its entrance. Whether it does
 // is asked of those alone that have the bare edge and an interior: it takes a walk.
+#![tactic(auto)]
+
 ghost use Rattle.table.specs.Verdict.{Says};
 ghost use Rattle.table.specs.Table.{Edge};
 ghost use Rattle.skipping.specs.Skipping.{Pair, LeadsBack, Found, Admitted};
