@@ -1,4 +1,6 @@
 // List: all superbubbles of a table, by rising entrance: one search from each vertex.
+#![tactic(auto)]
+
 ghost use Rattle.std.specs.Prelude.{◌+◌, ◌*◌, ◌≤◌, ◌≡◌, length};
 ghost use Rattle.table.specs.Table.{Edge};
 ghost use Rattle.bubble.specs.Superbubble.{Superbubble};
@@ -88,7 +90,7 @@ fn list_in(
 
 // Lists the superbubbles of a table at the front of a lent slice: 1 to 5, then 8, the smallest, or 0 with how many were found.
 pub fn list(starts: &[u32], targets: &[u32], out: &mut [u32]) -> Found
-    ensures { ListDone (record { starts = starts.entry.now; targets = targets.now }) out.old out.new result }
+    ensures { ListDone (record { starts = starts.now; targets = targets.now }) out.old out.new result }
 {
     let number = table::check(starts, targets);
     if number != 0 {
