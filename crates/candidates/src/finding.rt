@@ -75,7 +75,7 @@ fn pass_entrance(
     requires s_bound { s < vertices starts.now }
     ensures { Scan
         rings
-        (record { starts = starts.entry.now; targets = targets.now })
+        (record { starts = starts.now; targets = targets.now })
         parents.now
         pending.new
         order.new
@@ -125,7 +125,7 @@ pub fn find(
         exits.old }
     ensures { FindDone
         (candidates_of rings)
-        (record { starts = starts.entry.now; targets = targets.now })
+        (record { starts = starts.now; targets = targets.now })
         parents.new
         pending.new
         order.new
