@@ -1,4 +1,6 @@
 // Judge: whether one pair is a superbubble, and the number of vertices in its U.
+#![tactic(auto)]
+
 ghost use Rattle.std.specs.Prelude.{◌<◌, false, ◌⊎◌, ◌≡◌};
 ghost use Rattle.table.specs.Limits.{vertex_limit};
 ghost use Rattle.table.specs.Table.{Below, In};
@@ -81,7 +83,7 @@ fn judge_with(
     order: &mut [u32],
 ) -> Judgement
     requires { JudgeReady (record { starts = starts.now; targets = targets.now }) s t parents.old pending.old order.old }
-    ensures { (result.number ≡ 0) × Judged (record { starts = starts.entry.now; targets = targets.now }) s t result }
+    ensures { (result.number ≡ 0) × Judged (record { starts = starts.now; targets = targets.now }) s t result }
 {
     count_parents(targets, parents);
     copy(parents, pending);
@@ -110,7 +112,7 @@ fn judge_in(
     order: &mut [u32],
 ) -> Judgement
     requires { JudgeRoom (record { starts = starts.now; targets = targets.now }) s t parents.old pending.old order.old }
-    ensures { (result.number ≡ 0) × Judged (record { starts = starts.entry.now; targets = targets.now }) s t result }
+    ensures { (result.number ≡ 0) × Judged (record { starts = starts.now; targets = targets.now }) s t result }
 {
     let n = starts.len() - 1;
     judge_with(
@@ -126,7 +128,7 @@ fn judge_in(
 
 // Judges a pair: 1 to 5, then 13, the smallest, or 0 with the answer. s = t is a no.
 pub fn judge(starts: &[u32], targets: &[u32], s: u32, t: u32) -> Judgement
-    ensures { JudgeDone (record { starts = starts.entry.now; targets = targets.now }) s t result }
+    ensures { JudgeDone (record { starts = starts.now; targets = targets.now }) s t result }
 {
     let number = table::check(starts, targets);
     if number != 0 {
