@@ -1,4 +1,6 @@
 // Writing a house image: its contents are checked and the room asked first, so that a refusal stores nothing.
+#![tactic(auto)]
+
 ghost use Rattle.std.specs.Prelude.{◌≡◌, []};
 ghost use Rattle.table.specs.Verdict.{Says, Verdict};
 ghost use Rattle.layout.specs.Lengths.{Positive};
@@ -40,7 +42,7 @@ fn check(version: u32, starts: &[u32], targets: &[u32], counts: &[u64], lengths:
         (contents_demands
         version
         (record {
-          table = record { rows = record { starts = starts.entry.now; targets = targets.now }; counts = counts.now };
+          table = record { rows = record { starts = starts.now; targets = targets.now }; counts = counts.now };
           lengths = lengths.now;
         }))
         result }
@@ -77,7 +79,7 @@ pub fn write_version(
     ensures { Written
         version
         (record {
-          table = record { rows = record { starts = starts.entry.now; targets = targets.now }; counts = counts.now };
+          table = record { rows = record { starts = starts.now; targets = targets.now }; counts = counts.now };
           lengths = lengths.now;
         })
         image.old
@@ -115,7 +117,7 @@ pub fn write(starts: &[u32], targets: &[u32], counts: &[u64], image: &mut [u8]) 
     ensures { Written
         1
         (record {
-          table = record { rows = record { starts = starts.entry.now; targets = targets.now }; counts = counts.now };
+          table = record { rows = record { starts = starts.now; targets = targets.now }; counts = counts.now };
           lengths = [];
         })
         image.old
@@ -144,7 +146,7 @@ pub fn write_lengths(
     ensures { Written
         2
         (record {
-          table = record { rows = record { starts = starts.entry.now; targets = targets.now }; counts = counts.now };
+          table = record { rows = record { starts = starts.now; targets = targets.now }; counts = counts.now };
           lengths = lengths.now;
         })
         image.old
