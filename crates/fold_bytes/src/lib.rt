@@ -81,10 +81,10 @@ fn fold_contents(
         }) }
     ensures { FoldDelivered
         (fold_of rings version)
-        ((fold_of rings version).asked (record { starts = starts.entry.now; targets = targets.now }))
+        ((fold_of rings version).asked (record { starts = starts.now; targets = targets.now }))
         version
         (record {
-          table = record { rows = record { starts = starts.entry.now; targets = targets.now }; counts = counts.now };
+          table = record { rows = record { starts = starts.now; targets = targets.now }; counts = counts.now };
           lengths = lengths.now;
         })
         budget

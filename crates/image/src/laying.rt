@@ -21,7 +21,7 @@ pub fn lay(
         n
         m
         (record {
-          table = record { rows = record { starts = starts.now; targets = targets.old }; counts = counts.old };
+          table = record { rows = record { starts = starts.old; targets = targets.old }; counts = counts.old };
           lengths = lengths.old;
         }) }
     ensures { Laid
@@ -30,11 +30,11 @@ pub fn lay(
         n
         m
         (record {
-          table = record { rows = record { starts = starts.entry.now; targets = targets.old }; counts = counts.old };
+          table = record { rows = record { starts = starts.old; targets = targets.old }; counts = counts.old };
           lengths = lengths.old;
         })
         (record {
-          table = record { rows = record { starts = starts.exit.now; targets = targets.new }; counts = counts.new };
+          table = record { rows = record { starts = starts.new; targets = targets.new }; counts = counts.new };
           lengths = lengths.new;
         }) }
 {
@@ -65,11 +65,11 @@ pub fn lay_in_room(
         n
         m
         (record {
-          table = record { rows = record { starts = starts.entry.now; targets = targets.old }; counts = counts.old };
+          table = record { rows = record { starts = starts.old; targets = targets.old }; counts = counts.old };
           lengths = lengths.old;
         })
         (record {
-          table = record { rows = record { starts = starts.exit.now; targets = targets.new }; counts = counts.new };
+          table = record { rows = record { starts = starts.new; targets = targets.new }; counts = counts.new };
           lengths = lengths.new;
         })
         result }

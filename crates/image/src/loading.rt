@@ -17,11 +17,11 @@ pub fn load(
     ensures { Loaded
         image.now
         (record {
-          table = record { rows = record { starts = starts.entry.now; targets = targets.old }; counts = counts.old };
+          table = record { rows = record { starts = starts.old; targets = targets.old }; counts = counts.old };
           lengths = lengths.old;
         })
         (record {
-          table = record { rows = record { starts = starts.exit.now; targets = targets.new }; counts = counts.new };
+          table = record { rows = record { starts = starts.new; targets = targets.new }; counts = counts.new };
           lengths = lengths.new;
         })
         result }

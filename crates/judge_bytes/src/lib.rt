@@ -31,8 +31,8 @@ fn put_judgement(out: &mut [u8; LONGEST], yes: bool, vertices: u32) -> usize
 fn judge_table(starts: &[u32], targets: &[u32], s: u32, t: u32, out: &mut [u8; LONGEST]) -> Answer
     requires { WellFormed starts.now targets.now }
     ensures { Answered
-        (pair_inside (record { starts = starts.entry.now; targets = targets.now }) s t ∷ [])
-        (JudgementText (record { starts = starts.entry.now; targets = targets.now }) s t)
+        (pair_inside (record { starts = starts.now; targets = targets.now }) s t ∷ [])
+        (JudgementText (record { starts = starts.now; targets = targets.now }) s t)
         out.old
         out.new
         result }

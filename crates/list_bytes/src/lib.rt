@@ -52,7 +52,7 @@ fn list_table(
 ) -> usize
     requires { WellFormed starts.now targets.now }
     ensures { Printed
-        (ListText (record { starts = starts.entry.now; targets = targets.now }))
+        (ListText (record { starts = starts.now; targets = targets.now }))
         out.old
         out.new
         result }

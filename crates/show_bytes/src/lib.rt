@@ -102,10 +102,10 @@ fn put_vertices(
         (vertex_line
         version
         (record {
-          table = record { rows = record { starts = starts.entry.now; targets = targets.now }; counts = counts.now };
+          table = record { rows = record { starts = starts.now; targets = targets.now }; counts = counts.now };
           lengths = lengths.now;
         }))
-        (length starts.entry.now - 1)))
+        (length starts.now - 1)))
         out.new
         result }
 {
@@ -146,7 +146,7 @@ fn put_contents(
         (contents_lines
         version
         (record {
-          table = record { rows = record { starts = starts.entry.now; targets = targets.now }; counts = counts.now };
+          table = record { rows = record { starts = starts.now; targets = targets.now }; counts = counts.now };
           lengths = lengths.now;
         })))
         out.old

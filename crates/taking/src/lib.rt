@@ -21,17 +21,17 @@ fn take_with(
         vertex_limit
         edge_limit
         (record {
-          table = record { rows = record { starts = starts.now; targets = targets.old }; counts = counts.old };
+          table = record { rows = record { starts = starts.old; targets = targets.old }; counts = counts.old };
           lengths = lengths.old;
         })).met }
     ensures { TakenIn
         image.now
         (record {
-          table = record { rows = record { starts = starts.entry.now; targets = targets.old }; counts = counts.old };
+          table = record { rows = record { starts = starts.old; targets = targets.old }; counts = counts.old };
           lengths = lengths.old;
         })
         (record {
-          table = record { rows = record { starts = starts.exit.now; targets = targets.new }; counts = counts.new };
+          table = record { rows = record { starts = starts.new; targets = targets.new }; counts = counts.new };
           lengths = lengths.new;
         })
         result }
@@ -64,11 +64,11 @@ pub fn take_in(
     ensures taken_in { TakenIn
         image.now
         (record {
-          table = record { rows = record { starts = starts.entry.now; targets = targets.old }; counts = counts.old };
+          table = record { rows = record { starts = starts.old; targets = targets.old }; counts = counts.old };
           lengths = lengths.old;
         })
         (record {
-          table = record { rows = record { starts = starts.exit.now; targets = targets.new }; counts = counts.new };
+          table = record { rows = record { starts = starts.new; targets = targets.new }; counts = counts.new };
           lengths = lengths.new;
         })
         result }
