@@ -1,4 +1,6 @@
 // A house image judged, its contents loaded into lent slices, and written.
+#![tactic(auto)]
+
 mod header;
 mod laying;
 mod loading;

@@ -7,8 +7,7 @@ use lib.Dec.{eqb}
 use borrow.Author.Tests.{eq-eqb, ne_eqb}
 use Rattle.table.specs.Verdict.{Says}
 use Rattle.layout.specs.Lengths.{Known}
-use Rattle.image.proofs.header.is_known.Statement.{statement}
-use Rattle.image.proofs.header.is_known.Tie as tie
+use Rattle.image.proofs.header.is_known.Goals as goal
 
 -- a version other than 1 is known if it is 2
 second : (version : ℕ) → (version ≡ 1 → ⊥) → Says (eqb version 2) (Known version)
@@ -18,11 +17,8 @@ second version other =
       | no neither ↦ rw (ne_eqb version 2 neither) (⊎_elim other neither)
     ]
 
-returns : tie.Need-returns
-returns c = inl c.if1.true
+pub returns-then-version-eq-VERSION_1 : goal.returns-then-version-eq-VERSION_1
+returns-then-version-eq-VERSION_1 c = inl c.if-version-eq-VERSION_1.true
 
-returns-2 : tie.Need-returns-2
-returns-2 c = second c.before.args.version c.if1.false
-
-pub is-known-spec : {M : Type 1} → statement M
-is-known-spec = tie.close (tie.spec returns returns-2)
+pub returns : goal.returns
+returns c = second c.args.version c.if-version-eq-VERSION_1.false
