@@ -1,4 +1,6 @@
 // A program's way in: an image is looked at, and then loaded into the fronts of the program's arrays.
+#![tactic(auto)]
+
 ghost use Rattle.std.specs.Prelude.{◌≤◌};
 ghost use Rattle.table.specs.Limits.{vertex_limit, edge_limit};
 ghost use Rattle.image.specs.Looking.{contents_room};
