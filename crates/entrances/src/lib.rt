@@ -1,4 +1,6 @@
 // The loop over the entrances: each candidate within the budget is searched again and folded.
+#![tactic(auto)]
+
 ghost use Rattle.std.specs.Prelude.{◌≤◌, length};
 ghost use Rattle.table.specs.Table.{vertices};
 ghost use Rattle.rule.specs.Way.{the_fold};
