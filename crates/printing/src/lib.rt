@@ -1,4 +1,6 @@
 // The text of an answer: words, and numbers in shortest decimal, put at a place of a buffer that has room for them.
+#![tactic(auto)]
+
 ghost use Rattle.std.specs.Prelude.{◌+◌, ◌≤◌, ◌≡◌, [], ◌∷◌, length};
 ghost use Rattle.texts.specs.Text.{decimal, following, line, text, lengths_word, sizes_line, refusal_lines};
 ghost use Rattle.printing.specs.Put.{AtFront, Put};

@@ -1,0 +1,11 @@
+-- `printing::word` meets its contract. The loop's invariant: the first k bytes stand behind the place. Assumes nothing.
+use Prim.Native.Nat.{◌+◌, ◌-◌, ◌≤◌}
+use lib.ListN.{length, take}
+use Rattle.printing.specs.Put.{Put}
+use Rattle.printing.proofs.word.Given as goal
+
+abbrev pub invariant-loop-k : goal.invariant-loop-k
+invariant-loop-k l = (l.k ≤ length l.bytes) × Put l.initial.out l.at (take l.k l.bytes) l.out (l.at + l.k)
+
+abbrev pub decreases-loop-k : goal.decreases-loop-k
+decreases-loop-k l = length l.bytes - l.k
