@@ -1,5 +1,7 @@
 // The turns of a fold: over the entrances by rising number, the first candidates, as many as the budget, are folded, each to its kept path. What is left of
 // each row says one number a vertex, as `staying` takes it: n, which is no vertex's number, where the whole row stays.
+#![tactic(auto)]
+
 mod fills;
 
 ghost use Rattle.rule.specs.Way.{the_fold};
