@@ -6,7 +6,7 @@ mod visits;
 pub use visits::search;
 
 // What the search finds: the exit, and how many vertices were visited on the way to it.
-#[derive(Drop)]
+#[derive(Clone, Copy)]
 pub enum Exit {
     At(u32, usize),
     Nothing,
