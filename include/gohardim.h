@@ -4,8 +4,8 @@
 //
 // To build and link, in the root of the repository, on Linux on x86-64:
 //
-//     rt staticlib calls                                                   proves and builds the archive
-//     cc -Iinclude program.c target/staticlib/libcalls.a -o program        links it
+//     (cd crates/calls && rt lib)                                          proves and builds the archive
+//     cc -Iinclude program.c crates/calls/out/libcalls.a -o program        links it
 //
 // The archive needs nothing but the C library; bench/run shows the same with the kit's own compiler and linker.
 //

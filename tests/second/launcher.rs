@@ -184,6 +184,8 @@ impl Launcher<'_> {
         self.judge("a first run", stand_ins::first_run(folder));
         self.judge("a build crate by crate", stand_ins::crate_by_crate(folder));
         self.judge("a build that fails", stand_ins::failing(folder));
+        self.judge("a program with a status of its own", stand_ins::own_status(folder));
+        self.judge("what rt makes of other crates", stand_ins::other_crates(folder));
         self.judge("another kit", stand_ins::other_kit(folder));
         self.judge("no note of the kit", stand_ins::no_note(folder));
         self.judge("no kit, and no right to write", stand_ins::no_build(folder));
@@ -219,7 +221,8 @@ fn names_of_programs(root: &Path) -> Vec<String> {
 /// Where a program is missing it is built here.
 fn where_is(caller: &Caller, name: &str) -> Tried<()> {
     let words = caller.words_of(name, LONG)?;
-    let program = caller.root.join("target/bin").join(name).display().to_string();
+    let program = caller.root.join("crates").join(name).join("out").join(name);
+    let program = program.display().to_string();
     must(words.last() == Some(&program), || format!("it prints {words:?}"))?;
     caller.run(&["where", name], b"")?.must_say_nothing()
 }
@@ -259,8 +262,8 @@ fn hands_on_batch(caller: &Caller) -> Tried<()> {
 fn usage_in(caller: &Caller, name: &str) -> Option<String> {
     let main = caller.root.join("crates").join(name).join("src/main.rt");
     let source = fs::read_to_string(main).ok()?;
-    let behind = source.split_once("b\"usage: ")?.1;
-    Some(behind.split_once("\\n\"")?.0.to_string())
+    let line = source.split_once("\"usage: ")?.1.split_once('"')?.0;
+    Some(line.trim_end_matches("\\n").to_string())
 }
 
 fn lists(caller: &Caller, words: &[&str], usages: &[(&str, String)]) -> Tried<()> {
@@ -312,7 +315,7 @@ fn with_variables(caller: &Caller, program: &str) -> Tried<()> {
         ("SHELLOPTS", "errexit:noglob"),
         ("POSIXLY_CORRECT QEMU_STRACE QEMU_CPU IFS", "-v"),
         ("asked built crate due ended first folder home kit last line lock loader name note", "1"),
-        ("emulator opened pipe program relay root running said seen stamp status tools", "1"),
+        ("emulator opened pipe program relay root running said seen status tools", "1"),
     ] {
         command.envs(names.split(' ').map(|name| (name, value)));
     }

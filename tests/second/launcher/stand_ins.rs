@@ -14,14 +14,22 @@ use std::time::Duration;
 
 const KIT: &str = "stand-in-kit logic 0123456789abcdef";
 
+/// Where the kit has the loader.
+const TOOLS: &str = "kit/toolchain/lib";
+
 /// The loader's words are --library-path, a folder, and the program.
 const LOADER: &str = "shift 2\n. \"$1\"\n";
 
-/// What is left of a build behind its own lines: the program and its stamp, as rt leaves them.
-const BUILD: &str = "echo \"$*\" >>target/calls
-mkdir -p target/bin target/stamp
-cp \"crates/$2/program\" \"target/bin/$2\"
-echo stamp >\"target/stamp/$2\"
+/// Where rt is called, it is the crate's folder; its own lines go on from the root.
+const BEGIN: &str = "it=${PWD##*/}
+cd ../.. || exit 2
+";
+
+/// What is left of a build behind its own lines: the program, as rt leaves it when it runs it.
+const BUILD: &str = "echo \"$*\" >>out/calls
+mkdir -p \"crates/$it/out\"
+cp \"crates/$it/program\" \"crates/$it/out/$it\"
+echo \"rt: running out/$it; to give it other input, run that file yourself\" >&2
 ";
 
 pub struct StandIn {
@@ -34,8 +42,7 @@ impl StandIn {
     pub fn new(folder: &Path, program: &str, rt: &str) -> Tried<StandIn> {
         let root = folder.to_path_buf();
         let _ = fs::remove_dir_all(&root);
-        let tools = format!("kit/on/{}/toolchain/lib", env::consts::ARCH);
-        for part in ["crates/it/src", "kit/bin", &tools] {
+        for part in ["crates/it/src", "kit/bin", TOOLS] {
             fs::create_dir_all(root.join(part))?;
         }
         fs::copy("gohardim", root.join("gohardim"))?;
@@ -46,8 +53,8 @@ impl StandIn {
         let program = format!("# rattle logic={logic}\n{program}\n");
         fs::write(root.join("crates/it/program"), program)?;
         fs::write(root.join("kit/KIT-ID"), format!("{KIT}\n"))?;
-        write_script(&root.join("kit/bin/rt"), &format!("{rt}\n{BUILD}"))?;
-        write_script(&root.join(tools).join("ld-linux-x86-64.so.2"), LOADER)?;
+        write_script(&root.join("kit/bin/rt"), &format!("{BEGIN}{rt}\n{BUILD}"))?;
+        write_script(&root.join(TOOLS).join("ld-linux-x86-64.so.2"), LOADER)?;
         let variables = vec![("RATTLE_HOME".to_string(), root.join("kit").display().to_string())];
         let caller = Caller { folder: root.clone(), root, shell: None, variables };
         Ok(StandIn { caller })
@@ -57,11 +64,8 @@ impl StandIn {
     pub fn built(folder: &Path, program: &str) -> Tried<StandIn> {
         let stand_in = StandIn::new(folder, program, "")?;
         let root = &stand_in.caller.root;
-        for part in ["target/bin", "target/stamp"] {
-            fs::create_dir_all(root.join(part))?;
-        }
-        fs::copy(root.join("crates/it/program"), root.join("target/bin/it"))?;
-        fs::write(root.join("target/stamp/it"), "stamp\n")?;
+        fs::create_dir_all(root.join("crates/it/out"))?;
+        fs::copy(root.join("crates/it/program"), root.join("crates/it/out/it"))?;
         Ok(stand_in)
     }
 
@@ -76,7 +80,7 @@ impl StandIn {
 
     /// How often rt was called.
     fn calls(&self) -> usize {
-        fs::read_to_string(self.path("target/calls")).map_or(0, |calls| calls.lines().count())
+        fs::read_to_string(self.path("out/calls")).map_or(0, |calls| calls.lines().count())
     }
 
     fn must_have_called(&self, due: usize) -> Tried<()> {
@@ -171,7 +175,7 @@ pub fn reader_waits(folder: &Path) -> Tried<()> {
 /// An emulator, where the kit has one, stands before the loader.
 pub fn by_emulator(folder: &Path) -> Tried<()> {
     let it = StandIn::built(folder, "cat")?;
-    let bin = it.path(&format!("kit/on/{}/toolchain/bin", env::consts::ARCH));
+    let bin = it.path("kit/toolchain/bin");
     fs::create_dir_all(&bin)?;
     write_script(&bin.join("qemu-x86_64"), "exec \"$@\"")?;
     let words = it.caller.words_of("it", SHORT)?;
@@ -225,15 +229,15 @@ pub fn ends_by(folder: &Path, shell: &'static str, kills: bool) -> Tried<()> {
 /// Help builds nothing. A first run builds, and says so; it takes nothing of the program's input. A
 /// second run builds and says nothing.
 pub fn first_run(folder: &Path) -> Tried<()> {
-    let rt = "cat >taken\necho 'rt: it proved (3 s)'\necho 'rt: more'";
-    let it = StandIn::new(folder, "cat", rt)?;
+    let rt = format!("cat >taken\n{}\necho 'rt: more'", proved("it"));
+    let it = StandIn::new(folder, "cat", &rt)?;
     it.caller.run(&["it", "--help"], b"")?.must_print(b"gohardim it: a stand-in\n")?;
     it.must_have_called(0)?;
     let ended = it.run(b"input")?;
     ended.must_be(0)?;
     ended.must_print(b"input")?;
     let due =
-        "gohardim: proving and building it, which can take some minutes\nrt: it proved (3 s)\n";
+        "gohardim: proving and building it, which can take some minutes\ngohardim: it proved\n";
     must(ended.errors == due, || format!("it says {:?}", ended.errors))?;
     must(fs::read(it.path("taken"))?.is_empty(), || "the build has read the input".to_string())?;
     let again = it.run(b"input")?;
@@ -245,6 +249,11 @@ pub fn first_run(folder: &Path) -> Tried<()> {
     it.must_have_called(2)
 }
 
+/// What rt says of a crate that it has proved.
+fn proved(name: &str) -> String {
+    format!("echo 'crate {name}: modules loaded=1 checked=2'; echo 'logic=proved functions=1'")
+}
+
 /// rt stops until there is a file, but not for ever.
 const STOP: &str = "n=0
 until [ -e go ] || [ $n -gt 3000 ]; do n=$((n + 1)) && sleep 0.02; done
@@ -252,28 +261,56 @@ until [ -e go ] || [ $n -gt 3000 ]; do n=$((n + 1)) && sleep 0.02; done
 
 /// A crate is named when it is proved, and not at the end.
 pub fn crate_by_crate(folder: &Path) -> Tried<()> {
-    let more = "echo 'rt: two proved (unchanged since it was last proved)'
-echo 'rt: three proved (3 s)'";
-    let rt = format!("echo 'rt: one proved (1 s)'\n{STOP}{more}");
+    let more = "echo 'library two: modules loaded=3 checked=0'";
+    let rt = format!("{}\n{STOP}{more}\n{}", proved("one"), proved("three"));
     let it = StandIn::new(folder, "echo answer", &rt)?;
     let mut child = it.caller.call(&["it"]).spawn()?;
     let lines = Lines::of(child.stderr.take());
-    while lines.next()? != "rt: one proved (1 s)" {}
+    while lines.next()? != "gohardim: one proved" {}
     fs::write(it.path("go"), "")?;
     finish(child, b"", SHORT)?.must_be(0)?;
     let rest = lines.rest();
-    must(rest == ["rt: three proved (3 s)"], || format!("it goes on with {rest:?}"))
+    must(rest == ["gohardim: three proved"], || format!("it goes on with {rest:?}"))
 }
 
 /// All that rt says is there to read where it fails.
 pub fn failing(folder: &Path) -> Tried<()> {
-    let rt = "echo 'rt: one proved (1 s)'\necho 'a fault' >&2\nexit 1";
-    let it = StandIn::new(folder, "echo answer", rt)?;
+    let rt = format!("{}\necho 'a fault' >&2\nexit 1", proved("one"));
+    let it = StandIn::new(folder, "echo answer", &rt)?;
     let ended = it.run(b"")?;
     ended.must_be(3)?;
     ended.must_print(b"")?;
-    ended.must_say("\nrt: one proved (1 s)\na fault\ngohardim: it was not built")?;
-    must(!it.path("target/kit/it").exists(), || "there is a note".to_string())
+    ended.must_say("\nlogic=proved functions=1\na fault\ngohardim: it was not built")?;
+    must(!it.path("out/kit/it").exists(), || "there is a note".to_string())
+}
+
+/// rt ends with the status of the program that it runs: a program that ends with one is built all the
+/// same.
+pub fn own_status(folder: &Path) -> Tried<()> {
+    let it = StandIn::new(folder, "echo answer", "trap 'exit 1' EXIT")?;
+    let ended = it.run(b"")?;
+    ended.must_be(0)?;
+    ended.must_print(b"answer\n")?;
+    it.run(b"")?.must_say_nothing()?;
+    it.must_have_called(1)
+}
+
+/// What rt makes in the folders out/, with a crate's first one, is no reason to build anew; a source
+/// that is taken away is one.
+pub fn other_crates(folder: &Path) -> Tried<()> {
+    let it = StandIn::new(folder, "echo answer", "")?;
+    fs::create_dir_all(it.path("crates/other/src"))?;
+    fs::write(it.path("crates/other/src/more.rt"), "")?;
+    it.run(b"")?.must_be(0)?;
+    fs::create_dir(it.path("crates/other/out"))?;
+    for name in ["crates/other/out/other", "crates/it/out/more"] {
+        fs::write(it.path(name), "")?;
+    }
+    it.run(b"")?.must_say_nothing()?;
+    it.must_have_called(1)?;
+    fs::remove_file(it.path("crates/other/src/more.rt"))?;
+    it.run(b"")?.must_say("proving and building it")?;
+    it.must_have_called(2)
 }
 
 /// Of two builds one waits, and then there is nothing left to do.
@@ -290,12 +327,12 @@ pub fn outliving(folder: &Path) -> Tried<()> {
 
 /// An rt that notices another beside it.
 fn apart() -> String {
-    format!("mkdir target/busy || echo clash >>target/calls\n{STOP}rmdir target/busy")
+    format!("mkdir out/busy || echo clash >>out/calls\n{STOP}rmdir out/busy")
 }
 
 fn at_once_with(it: &StandIn, is_killed: bool) -> Tried<()> {
     let first = it.caller.call(&["it"]).spawn()?;
-    until("rt runs", || it.path("target/busy").exists())?;
+    until("rt runs", || it.path("out/busy").exists())?;
     if is_killed {
         send(&first, KILL);
     }
@@ -357,7 +394,7 @@ pub fn no_note(folder: &Path) -> Tried<()> {
 /// No kit, and no right to write where a program is built.
 pub fn no_build(folder: &Path) -> Tried<()> {
     let mut it = StandIn::new(folder, "echo answer", "")?;
-    fs::write(it.path("target"), "a file")?;
+    fs::write(it.path("out"), "a file")?;
     let ended = it.run(b"")?;
     ended.must_be(3)?;
     ended.must_print(b"")?;
