@@ -164,13 +164,20 @@ impl Call {
 // ---- how a file is opened
 
 const ACCESS: u64 = 0o3;
+const WRITE: u64 = 0o1;
 const CREATE: u64 = 0o100;
 const EXCLUSIVE: u64 = 0o200;
 const TRUNCATE: u64 = 0o1_000;
+const APPEND: u64 = 0o2_000;
 
 /// Whether these flags open a file for nothing but reading.
 pub fn only_reads(flags: u64) -> bool {
     flags & (ACCESS | CREATE | TRUNCATE) == 0
+}
+
+/// Whether these flags open a file that is there, to write behind its end.
+pub fn only_appends(flags: u64) -> bool {
+    flags & (ACCESS | CREATE | TRUNCATE | APPEND) == WRITE | APPEND
 }
 
 /// Whether these flags make a new file, and fail where there is one.

@@ -12,6 +12,7 @@ use crate::faults::traced::{Action, Ended};
 use crate::messages;
 use crate::parts::difference;
 
+const EINTR: i64 = 4;
 pub const EIO: i64 = 5;
 pub const EACCES: i64 = 13;
 pub const ENOSPC: i64 = 28;
@@ -68,7 +69,7 @@ pub fn all<'a>(fold: &'a Rehearsed<'a>) -> Vec<Check<'a>> {
 
 /// Whether a call that answers an error may have been done nevertheless.
 fn may_be_done(step: Step) -> bool {
-    let closes = [CloseNull, CloseIn, CloseNew, CloseFolder];
+    let closes = [CloseNull, CloseIn, CloseOut, CloseNew, CloseFolder];
     let others = [WriteNew, FlushNew, Rename, FlushFolder, Print, Say];
     closes.contains(&step) || others.contains(&step)
 }
@@ -163,12 +164,12 @@ impl Failure {
         self.step == Print && is_done
     }
 
-    /// What was opened for reading alone has nothing to lose when it is closed; not everyone may
-    /// give a file away; an answer is true without its reason; and a write that took nothing may be
-    /// tried again.
+    /// To what nothing was written, or what was flushed, there is nothing to lose when it is closed;
+    /// not everyone may give a file away; an answer is true without its reason; and an open that was
+    /// interrupted, or a write that took nothing, may be tried again.
     fn may_be_passed_over(self) -> bool {
-        [CloseNull, CloseIn, CloseFolder, SetOwner, Say].contains(&self.step)
-            || matches!(self.action, Action::Shorten(_))
+        [CloseNull, CloseIn, CloseOut, CloseNew, CloseFolder, SetOwner, Say].contains(&self.step)
+            || matches!(self.action, Action::Fail(EINTR) | Action::Shorten(_))
     }
 }
 

@@ -201,7 +201,7 @@ impl Rehearsed<'_> {
         steps.extend([LookAtOut, OpenFolder, TakeRandom, CreateNew, WriteNew, FlushNew, CloseNew]);
         steps.extend([Rename, FlushFolder, CloseFolder]);
         if self.due.old.contains_key(&self.scene.output) {
-            steps.extend([AskRights, SetOwner, SetRights]);
+            steps.extend([AskRights, CloseOut, SetOwner, SetRights]);
         }
         steps
     }

@@ -2,7 +2,7 @@
 //! the steps must keep so that OUT is whole at any moment and what is printed is true.
 
 use crate::count::Fault;
-use crate::faults::calls::{makes_new, only_reads, Call, Deed, Name};
+use crate::faults::calls::{makes_new, only_appends, only_reads, Call, Deed, Name};
 use std::collections::BTreeMap;
 
 /// What the name of a new file begins with; 16 hexadecimal digits follow.
@@ -19,7 +19,9 @@ pub enum Step {
     ReadIn,
     CloseIn,
     LookAtOut,
+    /// Whether OUT may be written: it is opened so, and nothing is written.
     AskRights,
+    CloseOut,
     OpenFolder,
     TakeRandom,
     CreateNew,
@@ -75,7 +77,7 @@ impl<'a> Story<'a> {
         let is_of_stream = self.answer(place).is_some_and(|number| (0..3).contains(&number));
         match self.steps[place] {
             Step::Foreign => Some("this is no step of a fold"),
-            Step::OpenIn | Step::OpenFolder | Step::CreateNew if is_of_stream => {
+            Step::OpenIn | Step::AskRights | Step::OpenFolder | Step::CreateNew if is_of_stream => {
                 Some("a file has the number of a standard stream")
             }
             Step::Print | Step::Say if self.open[place] > 0 => {
@@ -94,11 +96,12 @@ impl<'a> Story<'a> {
         }
     }
 
-    /// Whether the new file was written, then flushed, then closed before a place.
+    /// Whether the new file was written, then flushed, then closed before a place. All is on the disk
+    /// once it is flushed, so that the close may answer an error.
     fn is_stored(&self, place: usize) -> bool {
         let written = self.last(Step::WriteNew, place);
         let flushed = self.last(Step::FlushNew, place).filter(|&at| self.is_done(at));
-        let closed = self.last(Step::CloseNew, place).filter(|&at| self.is_done(at));
+        let closed = self.last(Step::CloseNew, place);
         written.is_some() && written < flushed && flushed < closed
     }
 
@@ -156,6 +159,7 @@ struct Book {
 enum Held {
     Null,
     In,
+    Out,
     Folder,
     New,
 }
@@ -223,6 +227,8 @@ impl Book {
         let (folder, last) = split(name);
         if makes_new(flags) && folder == self.folder && is_new(&last) {
             Some((Step::CreateNew, Held::New))
+        } else if only_appends(flags) && name == self.output {
+            Some((Step::AskRights, Held::Out))
         } else if !only_reads(flags) {
             None
         } else if name == "/dev/null" {
@@ -241,6 +247,7 @@ impl Book {
         match self.files.remove(&file) {
             Some(Held::Null) => Step::CloseNull,
             Some(Held::In) => Step::CloseIn,
+            Some(Held::Out) => Step::CloseOut,
             Some(Held::Folder) => Step::CloseFolder,
             Some(Held::New) => Step::CloseNew,
             None => Step::Foreign,
