@@ -1,10 +1,8 @@
 -- `visiting::next_open` meets its contract. The loop's invariant: each place before k is passed. Assumes nothing.
 use Prim.Native.Nat.{ℕ, ◌+◌, ◌≤◌, ◌<◌}
-use mathlib.Core.Logic.{inl, inr}
 use native.Mathlib.Omega.{arith}
 use native.Mathlib.Decide.{ℕ_discrete}
 use Rattle.visiting.proofs.next_open.Goals as goal
-use Rattle.visiting.proofs.next_open.Goals.{then-colours-u-lt2+else-u-over, else-colours-u-lt2}
 
 -- one place more is passed
 passed_more : {P : ℕ → Type 0} {place : ℕ} (k : ℕ) → P k → ((j : ℕ) → place ≤ j → j < k → P j) → (j : ℕ) → place ≤ j → j < k + 1 → P j
@@ -25,21 +23,12 @@ returns-then-u-over c = let at = c.loop-k in
       reached = at.invariant.0;
       within = at.invariant.1;
       passed = at.invariant.2;
-      not_done = λ l. omega (arith, c.if-colours-u-lt2.true);
+      not_done = λ l. omega arith;
       not_over = λ l. c.if-u-over.true;
     }
 
 pub loop-k-preserved : goal.loop-k-preserved
-loop-k-preserved c = let at = c.loop-k in (
-  omega arith,
-  omega arith,
-  passed_more at.k
-      (elim c.if-colours-u-lt2.branch [
-        | then-colours-u-lt2+else-u-over w ↦ inr (omega (arith, w.if-u-over.false))
-        | else-colours-u-lt2 w ↦ inl w.if-colours-u-lt2.false
-      ])
-      at.invariant.2,
-)
+loop-k-preserved c = (omega arith, omega arith, passed_more c.loop-k.k (grind arith) c.loop-k.invariant.2)
 
 pub returns : goal.returns
 returns c = let at = c.loop-k in
