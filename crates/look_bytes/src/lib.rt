@@ -1,4 +1,6 @@
 // Look, from the bytes of an image to the bytes of the line that is printed.
+#![tactic(auto)]
+
 ghost use Rattle.io.specs.Counts.{IsPrefixLen};
 ghost use Rattle.look_bytes.specs.Look.{LookAnswer};
 
