@@ -39,7 +39,7 @@ fn fold_at(
     ensures { EntranceFolded
         (the_fold mode).candidates
         (the_fold mode).rule
-        (record { rows = record { starts = starts.entry.now; targets = targets.now }; counts = counts.now })
+        (record { rows = record { starts = starts.now; targets = targets.now }; counts = counts.now })
         s
         parents.now
         best.old
@@ -121,12 +121,12 @@ pub fn fold_all(
         0 }
     ensures { Turning
         (the_fold mode)
-        (record { rows = record { starts = starts.entry.now; targets = targets.now }; counts = counts.now })
+        (record { rows = record { starts = starts.now; targets = targets.now }; counts = counts.now })
         exits.now
         next.new
         out.new
         budget
-        (vertices starts.entry.now)
+        (vertices starts.now)
         result }
 {
     let mut folded = 0;

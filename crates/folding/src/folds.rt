@@ -63,7 +63,7 @@ fn fold_in(
     ensures { (result.number ≡ 0)
         × FoldedAt
         (the_fold mode)
-        (record { rows = record { starts = starts.entry.now; targets = targets.now }; counts = counts.now })
+        (record { rows = record { starts = starts.now; targets = targets.now }; counts = counts.now })
         budget
         (record { rows = record { starts = starts2.old; targets = targets2.old }; counts = counts2.old })
         (record { rows = record { starts = starts2.new; targets = targets2.new }; counts = counts2.new })
@@ -103,7 +103,7 @@ pub fn fold_by(
 ) -> Folded
     ensures { FoldDone
         (the_fold mode)
-        (record { rows = record { starts = starts.entry.now; targets = targets.now }; counts = counts.now })
+        (record { rows = record { starts = starts.now; targets = targets.now }; counts = counts.now })
         budget
         (record { rows = record { starts = starts2.old; targets = targets2.old }; counts = counts2.old })
         (record { rows = record { starts = starts2.new; targets = targets2.new }; counts = counts2.new })
@@ -153,7 +153,7 @@ pub fn fold(
 ) -> Folded
     ensures { FoldDone
         (the_fold (plain Sum))
-        (record { rows = record { starts = starts.entry.now; targets = targets.now }; counts = counts.now })
+        (record { rows = record { starts = starts.now; targets = targets.now }; counts = counts.now })
         budget
         (record { rows = record { starts = starts2.old; targets = targets2.old }; counts = counts2.old })
         (record { rows = record { starts = starts2.new; targets = targets2.new }; counts = counts2.new })
@@ -180,7 +180,7 @@ pub fn fold_weakest(
 ) -> Folded
     ensures { FoldDone
         (the_fold (plain Weakest))
-        (record { rows = record { starts = starts.entry.now; targets = targets.now }; counts = counts.now })
+        (record { rows = record { starts = starts.now; targets = targets.now }; counts = counts.now })
         budget
         (record { rows = record { starts = starts2.old; targets = targets2.old }; counts = counts2.old })
         (record { rows = record { starts = starts2.new; targets = targets2.new }; counts = counts2.new })
@@ -207,7 +207,7 @@ pub fn fold_rings(
 ) -> Folded
     ensures { FoldDone
         (the_fold (ringed Sum))
-        (record { rows = record { starts = starts.entry.now; targets = targets.now }; counts = counts.now })
+        (record { rows = record { starts = starts.now; targets = targets.now }; counts = counts.now })
         budget
         (record { rows = record { starts = starts2.old; targets = targets2.old }; counts = counts2.old })
         (record { rows = record { starts = starts2.new; targets = targets2.new }; counts = counts2.new })
@@ -236,7 +236,7 @@ pub fn fold_rings_weakest(
 ) -> Folded
     ensures { FoldDone
         (the_fold (ringed Weakest))
-        (record { rows = record { starts = starts.entry.now; targets = targets.now }; counts = counts.now })
+        (record { rows = record { starts = starts.now; targets = targets.now }; counts = counts.now })
         budget
         (record { rows = record { starts = starts2.old; targets = targets2.old }; counts = counts2.old })
         (record { rows = record { starts = starts2.new; targets = targets2.new }; counts = counts2.new })

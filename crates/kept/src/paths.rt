@@ -50,7 +50,7 @@ fn settle(
         next.old }
     ensures { SettledFrom
         by
-        (record { rows = record { starts = starts.entry.now; targets = targets.now }; counts = counts.now })
+        (record { rows = record { starts = starts.now; targets = targets.now }; counts = counts.now })
         visited.now
         t
         bound
@@ -91,7 +91,7 @@ fn lead(
         next.old }
     ensures { Led
         by
-        (record { rows = record { starts = starts.entry.now; targets = targets.now }; counts = counts.now })
+        (record { rows = record { starts = starts.now; targets = targets.now }; counts = counts.now })
         visited.now
         t
         next.old
@@ -211,7 +211,7 @@ pub fn keep(
     ensures { KeptDone
         (the_fold mode).candidates
         (the_fold mode).rule
-        (record { rows = record { starts = starts.entry.now; targets = targets.now }; counts = counts.now })
+        (record { rows = record { starts = starts.now; targets = targets.now }; counts = counts.now })
         (get_or visited.now 0 0)
         t
         best.old

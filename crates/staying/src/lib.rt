@@ -47,7 +47,7 @@ pub fn write_table(
         next.now
         (record { starts = starts2.old; targets = targets2.old }) }
     ensures { TableWritten
-        (record { starts = starts.entry.now; targets = targets.now })
+        (record { starts = starts.now; targets = targets.now })
         next.now
         (record { starts = starts2.old; targets = targets2.old })
         (record { starts = starts2.new; targets = targets2.new })

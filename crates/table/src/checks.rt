@@ -62,7 +62,7 @@ fn rows_rise(starts: &[u32], targets: &[u32]) -> bool
 
 // 1 to 5, the first that is given, or 0: starts and targets are well-formed.
 pub fn check(starts: &[u32], targets: &[u32]) -> u32
-    ensures { Verdict (table_demands (record { starts = starts.entry.now; targets = targets.now })) result }
+    ensures { Verdict (table_demands (record { starts = starts.now; targets = targets.now })) result }
 {
     if starts.len() == 0 {
         return 1;
@@ -90,7 +90,7 @@ pub fn check_counted(starts: &[u32], targets: &[u32], counts: &[u64]) -> u32
     ensures { Verdict
         (counted_demands
         (record {
-          rows = record { starts = starts.entry.now; targets = targets.now };
+          rows = record { starts = starts.now; targets = targets.now };
           counts = counts.now;
         }))
         result }

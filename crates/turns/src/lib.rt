@@ -41,7 +41,7 @@ fn turn_in(
         out.old }
     ensures { TurnDone
         (the_fold mode)
-        (record { rows = record { starts = starts.entry.now; targets = targets.now }; counts = counts.now })
+        (record { rows = record { starts = starts.now; targets = targets.now }; counts = counts.now })
         budget
         next.new
         out.new
@@ -80,7 +80,7 @@ pub fn turn(
         out.old }
     ensures { TurnDone
         (the_fold mode)
-        (record { rows = record { starts = starts.entry.now; targets = targets.now }; counts = counts.now })
+        (record { rows = record { starts = starts.now; targets = targets.now }; counts = counts.now })
         budget
         next.new
         out.new
