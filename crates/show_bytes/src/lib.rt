@@ -1,4 +1,6 @@
 // Show, from the bytes of an image to the bytes of the text that is printed.
+#![tactic(auto)]
+
 ghost use Rattle.std.specs.Prelude.{◌+◌, ◌-◌, ◌≤◌, ◌∷◌, ◌++◌, map, length};
 ghost use Rattle.io.specs.Counts.{IsPrefixLen};
 ghost use Rattle.layout.specs.Lengths.{length_count};
