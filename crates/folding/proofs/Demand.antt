@@ -1,7 +1,7 @@
 -- Of all that the contract of fold allows, in every lawful way: two results coincide, and what a fold leaves is accepted by the next one. With `TableDemand` of
 -- `rule` this is demand 3. Assumes nothing.
 use Prim.Native.Nat.{ℕ, ◌+◌}
-use mathlib.Core.Path.{◌≡◌, refl, sym, ap, ap₂, ◌∙◌}
+use mathlib.Core.Path.{◌≡◌, sym, ap, ap₂, ◌∙◌}
 use mathlib.Core.Logic.{inr}
 use mathlib.Core.List.{◌∷◌, ◌++◌}
 use native.Mathlib.Decide.{ℕ_discrete}
