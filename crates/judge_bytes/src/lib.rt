@@ -1,4 +1,6 @@
 // Judge, from the bytes of an image and a pair to the bytes of the text that is printed.
+#![tactic(auto)]
+
 ghost use Rattle.std.specs.Prelude.{[], ◌∷◌};
 ghost use Rattle.io.specs.Counts.{IsPrefixLen};
 ghost use Rattle.table.specs.Table.{WellFormed};
