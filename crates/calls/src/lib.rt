@@ -1,4 +1,6 @@
 // The library's calls for a C program: look, load and write, list, judge and fold. The number is returned, and each other field is handed out through a lent number.
+#![tactic(auto)]
+
 ghost use Rattle.std.specs.Prelude.{[]};
 ghost use Rattle.image.specs.Looking.{Looked, Loaded};
 ghost use Rattle.writing.specs.Writing.{Written};
@@ -41,11 +43,11 @@ pub extern "C" fn gohardim_load(
     ensures { Loaded
         image.now
         (record {
-          table = record { rows = record { starts = starts.entry.now; targets = targets.old }; counts = counts.old };
+          table = record { rows = record { starts = starts.old; targets = targets.old }; counts = counts.old };
           lengths = lengths.old;
         })
         (record {
-          table = record { rows = record { starts = starts.exit.now; targets = targets.new }; counts = counts.new };
+          table = record { rows = record { starts = starts.new; targets = targets.new }; counts = counts.new };
           lengths = lengths.new;
         })
         (record { number = result; version = version.new; vertices = vertices.new; edges = edges.new }) }
@@ -69,7 +71,7 @@ pub extern "C" fn gohardim_write(
     ensures { Written
         1
         (record {
-          table = record { rows = record { starts = starts.entry.now; targets = targets.now }; counts = counts.now };
+          table = record { rows = record { starts = starts.now; targets = targets.now }; counts = counts.now };
           lengths = [];
         })
         image.old
@@ -94,7 +96,7 @@ pub extern "C" fn gohardim_write_lengths(
     ensures { Written
         2
         (record {
-          table = record { rows = record { starts = starts.entry.now; targets = targets.now }; counts = counts.now };
+          table = record { rows = record { starts = starts.now; targets = targets.now }; counts = counts.now };
           lengths = lengths.now;
         })
         image.old
@@ -114,7 +116,7 @@ pub extern "C" fn gohardim_list(
     out: &mut [u32],
     found: &mut usize,
 ) -> u32
-    ensures { ListDone (record { starts = starts.entry.now; targets = targets.now }) out.old out.new
+    ensures { ListDone (record { starts = starts.now; targets = targets.now }) out.old out.new
         (record { number = result; found = found.new }) }
 {
     let answer = listing::list(starts, targets, out);
@@ -132,7 +134,7 @@ pub extern "C" fn gohardim_judge(
     yes: &mut bool,
     size: &mut u32,
 ) -> u32
-    ensures { JudgeDone (record { starts = starts.entry.now; targets = targets.now }) s t
+    ensures { JudgeDone (record { starts = starts.now; targets = targets.now }) s t
         (record { number = result; yes = yes.new; size = size.new }) }
 {
     let answer = judging::judge(starts, targets, s, t);
@@ -157,7 +159,7 @@ pub extern "C" fn gohardim_fold(
 ) -> u32
     ensures { FoldDone
         (the_fold (plain Sum))
-        (record { rows = record { starts = starts.entry.now; targets = targets.now }; counts = counts.now })
+        (record { rows = record { starts = starts.now; targets = targets.now }; counts = counts.now })
         budget
         (record { rows = record { starts = starts2.old; targets = targets2.old }; counts = counts2.old })
         (record { rows = record { starts = starts2.new; targets = targets2.new }; counts = counts2.new })
@@ -186,7 +188,7 @@ pub extern "C" fn gohardim_fold_weakest(
 ) -> u32
     ensures { FoldDone
         (the_fold (plain Weakest))
-        (record { rows = record { starts = starts.entry.now; targets = targets.now }; counts = counts.now })
+        (record { rows = record { starts = starts.now; targets = targets.now }; counts = counts.now })
         budget
         (record { rows = record { starts = starts2.old; targets = targets2.old }; counts = counts2.old })
         (record { rows = record { starts = starts2.new; targets = targets2.new }; counts = counts2.new })
@@ -218,7 +220,7 @@ pub extern "C" fn gohardim_fold_rings(
 ) -> u32
     ensures { FoldDone
         (the_fold (ringed Sum))
-        (record { rows = record { starts = starts.entry.now; targets = targets.now }; counts = counts.now })
+        (record { rows = record { starts = starts.now; targets = targets.now }; counts = counts.now })
         budget
         (record { rows = record { starts = starts2.old; targets = targets2.old }; counts = counts2.old })
         (record { rows = record { starts = starts2.new; targets = targets2.new }; counts = counts2.new })
@@ -248,7 +250,7 @@ pub extern "C" fn gohardim_fold_rings_weakest(
 ) -> u32
     ensures { FoldDone
         (the_fold (ringed Weakest))
-        (record { rows = record { starts = starts.entry.now; targets = targets.now }; counts = counts.now })
+        (record { rows = record { starts = starts.now; targets = targets.now }; counts = counts.now })
         budget
         (record { rows = record { starts = starts2.old; targets = targets2.old }; counts = counts2.old })
         (record { rows = record { starts = starts2.new; targets = targets2.new }; counts = counts2.new })
