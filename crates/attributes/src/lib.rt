@@ -1,75 +1,81 @@
-// What the system says of the file at a path: the one call of the C library here that takes a reference to a struct.
-ghost use Rattle.libc.specs.Io.{Ended, Status};
+// What the system says of the file at a path.
+#![tactic(auto)]
 
-use libc::{PATH_MAX, types};
+ghost use Rattle.std.specs.Prelude.{◌≤◌, ◌≡◌, length, IfOk};
+ghost use Rattle.attributes.specs.Paths.{Ended, Status};
+
+pub mod errors;
+
+use errors::EILSEQ;
+use std::fs::{Files, Metadata};
+use std::os::unix::fs::MetadataExt;
+use std::{fs, io};
+
+// How many bytes the system takes for a name with the 0 behind it.
+pub const PATH_MAX: usize = 4096;
 
 const LAST: usize = PATH_MAX - 1;
 
-// What is said of a file. Its status is 0, or -1 with the error in errno, and then the rest says nothing.
+// What is said of a file. Its status is 0, or -1 with the system's error, or with 0 where that gave no number; then the rest says nothing.
 #[derive(Drop)]
 pub struct Seen {
     pub status: i32,
+    pub error: i32,
     pub mode: u32,
     pub owner: u32,
     pub group: u32,
 }
 
-// The system's answer, and the buffer as it was left.
-#[derive(Drop)]
-struct Told {
-    status: i32,
-    stat: types::stat,
-}
-
-// A buffer of zeros.
-fn blank() -> types::stat {
-    let never = types::timespec {
-        tv_sec: 0,
-        tv_nsec: 0,
-    };
-    types::stat {
-        st_dev: 0,
-        st_ino: 0,
-        st_nlink: 0,
-        st_mode: 0,
-        st_uid: 0,
-        st_gid: 0,
-        __pad: 0,
-        st_rdev: 0,
-        st_size: 0,
-        st_blksize: 0,
-        st_blocks: 0,
-        st_atim: never,
-        st_mtim: never,
-        st_ctim: never,
-        __unused: [0; 3],
-    }
-}
-
-// Lends the buffer for lstat to fill it. It does nothing else, since a function that makes a reference to a struct is proved by hand.
-fn ask(path: &[u8; PATH_MAX], mut buffer: types::stat) -> Told
-    requires { Ended path.now }
-    ensures { Status result.status }
+// How many bytes stand before the 0 that ends a path.
+fn extent(path: &[u8; PATH_MAX]) -> usize
+    ensures { result ≤ length path.now }
 {
-    let status = libc::lstat(path, &mut buffer);
-    Told {
-        status,
-        stat: buffer,
+    let mut end = 0;
+    while end < LAST {
+        if path[end] == 0 {
+            break;
+        }
+        end += 1;
     }
+    end
+}
+
+// A name as the library takes it, which is text in UTF-8. For one that is none the error is the one that the system has for such bytes.
+pub fn text(name: &[u8]) -> io::Result<&str>
+    ensures { IfOk result (λ text. text.now ≡ name.now) }
+{
+    match std::str::from_utf8(name) {
+        Ok(text) => Ok(text),
+        Err(_) => Err(io::Error::from_raw_os_error(EILSEQ)),
+    }
+}
+
+// Asks the system; a link is not followed.
+fn ask(files: &impl Files, path: &[u8; PATH_MAX]) -> io::Result<Metadata> {
+    let end = extent(path);
+    fs::symlink_metadata(files, text(&path[..end])?)
 }
 
 // The attributes of the file that a path names; a link is not followed.
-pub fn of(path: &[u8; PATH_MAX]) -> Seen
+pub fn of(files: &impl Files, path: &[u8; PATH_MAX]) -> Seen
     requires { Ended path.now }
     ensures { Status result.status }
 {
-    let told = ask(path, blank());
-    let stat = told.stat;
-    Seen {
-        status: told.status,
-        mode: stat.st_mode,
-        owner: stat.st_uid,
-        group: stat.st_gid,
+    match ask(files, path) {
+        Ok(stat) => Seen {
+            status: 0,
+            error: 0,
+            mode: stat.mode(),
+            owner: stat.uid(),
+            group: stat.gid(),
+        },
+        Err(error) => Seen {
+            status: -1,
+            error: error.raw_os_error().unwrap_or(0),
+            mode: 0,
+            owner: 0,
+            group: 0,
+        },
     }
 }
 

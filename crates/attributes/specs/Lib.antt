@@ -1,0 +1,2 @@
+-- The definitions of `attributes`. Assumes nothing.
+pub mod Paths

@@ -1,0 +1,58 @@
+// The numbers that the system gives to errors.
+
+// It is not allowed.
+pub const EPERM: i32 = 1;
+
+// There is no such file or folder.
+pub const ENOENT: i32 = 2;
+
+// A signal interrupted it.
+pub const EINTR: i32 = 4;
+
+// The device has a fault.
+pub const EIO: i32 = 5;
+
+// The number of the file is not open.
+pub const EBADF: i32 = 9;
+
+// It would have to wait.
+pub const EAGAIN: i32 = 11;
+
+// There is no memory.
+pub const ENOMEM: i32 = 12;
+
+// The rights do not allow it.
+pub const EACCES: i32 = 13;
+
+// The name is taken.
+pub const EEXIST: i32 = 17;
+
+// A part of the name is no folder.
+pub const ENOTDIR: i32 = 20;
+
+// It is a folder.
+pub const EISDIR: i32 = 21;
+
+// The system does not do this.
+pub const EINVAL: i32 = 22;
+
+// Too many files are open.
+pub const EMFILE: i32 = 24;
+
+// The file would be too large.
+pub const EFBIG: i32 = 27;
+
+// No room is left.
+pub const ENOSPC: i32 = 28;
+
+// The disk can only be read.
+pub const EROFS: i32 = 30;
+
+// The name is too long.
+pub const ENAMETOOLONG: i32 = 36;
+
+// There are too many links.
+pub const ELOOP: i32 = 40;
+
+// The bytes are no text.
+pub const EILSEQ: i32 = 84;
