@@ -1,9 +1,21 @@
 // What stands at a name: only a plain file, or nothing, may be replaced.
 ghost use Rattle.std.specs.Prelude.{◌<◌, length};
-ghost use Rattle.libc.specs.Io.{Ended};
 ghost use Rattle.files.specs.Names.{path_limit};
 
-use crate::errors::last;
+use crate::errors::{known, last};
+use attributes::errors::ENOENT;
+use attributes::text;
+use std::fs::{Files, OpenOptions};
+use std::io;
+
+// The part of a mode that says the kind of a file, and what it is for a plain file, a folder and a link.
+const S_IFMT: u32 = 0o170_000;
+
+const S_IFREG: u32 = 0o100_000;
+
+const S_IFDIR: u32 = 0o040_000;
+
+const S_IFLNK: u32 = 0o120_000;
 
 // The nine rights of a plain file, and its owner.
 #[derive(Drop)]
@@ -25,22 +37,34 @@ pub enum Found {
     Protected(i32),
 }
 
+// Opens a plain file to write behind its end.
+fn open_to_append<R: Files>(files: &R, name: &[u8]) -> io::Result<R::File> {
+    OpenOptions::new().append(true).open(files, text(name)?)
+}
+
+// Whether a plain file may be written: answers 0, or the error. The library asks for rights in no other way than by opening the file; nothing is written, and it is closed at once.
+fn ask_rights(files: &impl Files, name: &[u8]) -> i32 {
+    match open_to_append(files, name) {
+        Ok(_) => 0,
+        Err(error) => last(&error),
+    }
+}
+
 // What the system says of a mode: its kind and, where it is a plain file, whether that may be written.
-fn kind_of(path: &[u8; libc::PATH_MAX], mode: u32, owner: u32, group: u32) -> Found
-    requires { Ended path.now }
-{
-    let kind = mode & libc::S_IFMT;
-    if kind == libc::S_IFLNK {
+fn kind_of(files: &impl Files, name: &[u8], mode: u32, owner: u32, group: u32) -> Found {
+    let kind = mode & S_IFMT;
+    if kind == S_IFLNK {
         return Found::Link;
     }
-    if kind == libc::S_IFDIR {
+    if kind == S_IFDIR {
         return Found::Folder;
     }
-    if kind != libc::S_IFREG {
+    if kind != S_IFREG {
         return Found::Special;
     }
-    if libc::access(path, libc::W_OK) != 0 {
-        return Found::Protected(last());
+    let error = ask_rights(files, name);
+    if error != 0 {
+        return Found::Protected(error);
     }
     Found::Plain(Old {
         rights: mode % 512,
@@ -49,21 +73,21 @@ fn kind_of(path: &[u8; libc::PATH_MAX], mode: u32, owner: u32, group: u32) -> Fo
     })
 }
 
-// Looks at what stands at a name. Nothing is opened, so a pipe is not waited for and a device does nothing.
-pub fn find(name: &[u8]) -> Found
+// Looks at what stands at a name. Nothing but a plain file is opened, so a pipe is not waited for and a device does nothing.
+pub fn find(files: &impl Files, name: &[u8]) -> Found
     requires { length name.now < path_limit }
 {
     if name.len() == 0 {
-        return Found::Unseen(libc::ENOENT);
+        return Found::Unseen(ENOENT);
     }
     let path = attributes::ended(name);
-    let seen = attributes::of(&path);
+    let seen = attributes::of(files, &path);
     if seen.status != 0 {
-        let error = last();
-        if error == libc::ENOENT {
+        let error = known(seen.error);
+        if error == ENOENT {
             return Found::Free;
         }
         return Found::Unseen(error);
     }
-    kind_of(&path, seen.mode, seen.owner, seen.group)
+    kind_of(files, name, seen.mode, seen.owner, seen.group)
 }

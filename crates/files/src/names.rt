@@ -1,7 +1,12 @@
 // Names: the folder of a file, and the name of its own that a run writes under.
-ghost use Rattle.std.specs.Prelude.{◌+◌, ◌*◌, ◌≤◌, length};
+ghost use Rattle.std.specs.Prelude.{◌+◌, ◌*◌, ◌≤◌, length, IfOk};
 ghost use Rattle.io.specs.Counts.{IsPrefixLen};
 ghost use Rattle.files.specs.Names.{path_limit};
+
+use attributes::text;
+use std::fs::{File, Files};
+use std::io;
+use std::random::RandomSource;
 
 // What the name of a file that is being written begins with. 16 hexadecimal digits follow.
 const BEGINNING: [u8; 13] = *b"gohardim-new-";
@@ -24,12 +29,12 @@ pub fn folder_length(name: &[u8]) -> usize
 }
 
 // Opens the folder of a file for reading: by the part of its name up to the last slash, or `.` where it has none.
-pub fn open_folder(name: &[u8]) -> i32 {
+pub fn open_folder<R: Files>(files: &R, name: &[u8]) -> io::Result<R::File> {
     let end = folder_length(name);
     if end == 0 {
-        return os::open_read(b".");
+        return File::open(files, ".");
     }
-    os::open_read(&name[..end])
+    File::open(files, text(&name[..end])?)
 }
 
 // Puts bytes at a place.
@@ -73,19 +78,17 @@ fn put_hex(path: &mut [u8], at: usize, bytes: &[u8])
     }
 }
 
-// Puts a new name in the folder of a file, and answers its length; or 0, with the error, where the system has no random bytes.
+// Puts a new name in the folder of a file, and answers its length; or the error, where the system has no random bytes.
 // Two runs never write under one name, and no run reads, renames or removes what another one left.
-pub fn own_name(name: &[u8], path: &mut [u8; 4125]) -> usize
+pub fn own_name(source: &impl RandomSource, name: &[u8], path: &mut [u8; 4125]) -> io::Result<usize>
     requires { length name.now ≤ path_limit }
-    ensures { IsPrefixLen result path.new }
+    ensures { IfOk result (λ count. IsPrefixLen count path.new) }
 {
     let mut random = [0u8; 8];
-    if libc::getentropy(&mut random) != 0 {
-        return 0;
-    }
+    source.fill_bytes(&mut random)?;
     let end = folder_length(name);
     put(path, 0, &name[..end]);
     put(path, end, &BEGINNING);
     put_hex(path, end + 13, &random);
-    end + OWN
+    Ok(end + OWN)
 }

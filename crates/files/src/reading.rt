@@ -3,6 +3,10 @@ ghost use Rattle.std.specs.Prelude.{◌≤◌, ◌≡◌, length};
 ghost use Rattle.io.specs.Counts.{IsPrefixLen};
 
 use crate::errors::last;
+use attributes::text;
+use std::fs::{File, Files};
+use std::io;
+use std::io::Read;
 
 // What a reading answers: 0 and how many bytes came, or the error and 0.
 #[derive(Drop)]
@@ -19,15 +23,13 @@ fn failed(error: i32) -> Input
 }
 
 // One call of read. A count of 0 without an error is the end.
-fn read_once(fd: i32, rest: &mut [u8]) -> Input
+fn read_once(input: &mut impl Read, rest: &mut [u8]) -> Input
     ensures { result.count ≤ length rest.new }
 {
-    let got = libc::read(fd, rest);
-    if got < 0 {
-        return failed(last());
+    match input.read(rest) {
+        Ok(count) => Input { error: 0, count },
+        Err(error) => failed(last(&error)),
     }
-    let count = io::count(got, rest);
-    Input { error: 0, count }
 }
 
 // The smaller of two lengths.
@@ -38,13 +40,13 @@ fn least(a: usize, b: usize) -> usize
 }
 
 // Reads an open file or stream to its end, or until so many bytes came as are asked for or as the slice holds. A call that fails is an error, whatever came before it: it is not the end.
-pub fn read(fd: i32, stream: &mut [u8], most: usize) -> Input
+pub fn read(input: &mut impl Read, stream: &mut [u8], most: usize) -> Input
     ensures { IsPrefixLen result.count stream.new }
 {
     let end = least(most, stream.len());
     let mut done = 0;
     while done < end {
-        let more = read_once(fd, &mut stream[done..end]);
+        let more = read_once(input, &mut stream[done..end]);
         if more.error != 0 {
             return failed(more.error);
         }
@@ -59,15 +61,17 @@ pub fn read(fd: i32, stream: &mut [u8], most: usize) -> Input
     }
 }
 
+// Opens the file of a name for reading.
+fn open<R: Files>(files: &R, name: &[u8]) -> io::Result<R::File> {
+    File::open(files, text(name)?)
+}
+
 // Reads the file of a name in the same way, and closes it.
-pub fn read_file(name: &[u8], stream: &mut [u8], most: usize) -> Input
+pub fn read_file(files: &impl Files, name: &[u8], stream: &mut [u8], most: usize) -> Input
     ensures { IsPrefixLen result.count stream.new }
 {
-    let fd = os::open_read(name);
-    if fd < 0 {
-        return failed(last());
+    match open(files, name) {
+        Ok(mut file) => read(&mut file, stream, most),
+        Err(error) => failed(last(&error)),
     }
-    let input = read(fd, stream, most);
-    libc::close(fd);
-    input
 }

@@ -16,6 +16,14 @@ use crate::errors::last;
 use crate::kind::{Found, Old, find};
 use crate::names::{OWN, open_folder, own_name};
 use crate::writing::write;
+use attributes::errors::ENAMETOOLONG;
+use attributes::{PATH_MAX, text};
+use std::fs::{Files, OpenFile, OpenOptions, Permissions};
+use std::io::Write;
+use std::os::fd::AsFd;
+use std::os::unix::fs::{PermissionsExt, fchown};
+use std::random::RandomSource;
+use std::{fs, io};
 
 // What replacing a file came to. Each number is the system's error.
 #[derive(Drop)]
@@ -33,105 +41,161 @@ pub enum Replaced {
     FolderUnflushed(i32),
 }
 
-// Gives an open file the owner and the rights of an old one; answers 0, or the error. The owner is kept where the system lets it: whoever may not give a file away leaves a file of their own.
-fn keep_rights(fd: i32, old: Old) -> i32 {
-    libc::fchown(fd, 4_294_967_295, old.group);
-    libc::fchown(fd, old.owner, 4_294_967_295);
-    if libc::fchmod(fd, old.rights) != 0 {
-        return last();
+// Answers 0, or the error.
+fn number(done: io::Result<()>) -> i32 {
+    match done {
+        Ok(()) => 0,
+        Err(error) => last(&error),
     }
-    0
+}
+
+// Gives an open file the owner and the rights of an old one; answers 0, or the error. The owner is kept where the system lets it: whoever may not give a file away leaves a file of their own.
+fn keep_rights<F: OpenFile + AsFd>(file: &F, old: Old) -> i32 {
+    let _ = fchown(file, None, Some(old.group));
+    let _ = fchown(file, Some(old.owner), None);
+    number(file.set_permissions(Permissions::from_mode(old.rights)))
 }
 
 // The rights of an open file, after those of what stood at the name; answers 0, or the error. A file at a free name keeps those that the system gives to any new file.
-fn settle_rights(fd: i32, found: Found) -> i32 {
+fn settle_rights<F: OpenFile + AsFd>(file: &F, found: Found) -> i32 {
     match found {
-        Found::Plain(old) => keep_rights(fd, old),
+        Found::Plain(old) => keep_rights(file, old),
         _ => 0,
     }
 }
 
 // Sets the rights of an open file, writes all bytes to it, and flushes it to the disk; answers 0, or the error.
-fn fill(fd: i32, found: Found, bytes: &[u8]) -> i32 {
-    let error = settle_rights(fd, found);
+fn fill<F: Write + OpenFile + AsFd>(file: &mut F, found: Found, bytes: &[u8]) -> i32 {
+    let error = settle_rights(&*file, found);
     if error != 0 {
         return error;
     }
-    let unwritten = write(fd, bytes);
+    let unwritten = write(file, bytes);
     if unwritten != 0 {
         return unwritten;
     }
-    if libc::fsync(fd) != 0 {
-        return last();
-    }
-    0
+    number(file.sync_all())
 }
 
-// The same, and closes the file; one that could not be closed counts as not written.
-fn store(fd: i32, found: Found, bytes: &[u8]) -> i32 {
-    let error = fill(fd, found, bytes);
-    if libc::close(fd) != 0 && error == 0 {
-        return last();
-    }
-    error
+// The same, and closes the file. All is on the disk then, and the library says nothing of how the close went.
+fn store<F: Write + OpenFile + AsFd + Drop>(mut file: F, found: Found, bytes: &[u8]) -> i32 {
+    fill(&mut file, found, bytes)
 }
 
-// Steps 3 to 6, under this name of its own.
-fn replace_by(own: &[u8], folder: i32, found: Found, name: &[u8], bytes: &[u8]) -> Replaced {
-    let fd = os::create(own);
-    if fd < 0 {
-        return Replaced::Unmade(last());
-    }
-    let error = store(fd, found, bytes);
+// Makes a file for writing, only if its name is free.
+fn create<R: Files>(files: &R, own: &[u8]) -> io::Result<R::File> {
+    OpenOptions::new()
+        .write(true)
+        .create_new(true)
+        .open(files, text(own)?)
+}
+
+// Renames a file.
+fn rename(files: &impl Files, own: &[u8], name: &[u8]) -> io::Result<()> {
+    fs::rename(files, text(own)?, text(name)?)
+}
+
+// Removes a file.
+fn unlink(files: &impl Files, own: &[u8]) -> io::Result<()> {
+    fs::remove_file(files, text(own)?)
+}
+
+// Steps 4 to 6, for the file that was made under this name of its own.
+fn replace_with<R: Files>(
+    files: &R,
+    file: R::File,
+    own: &[u8],
+    folder: &R::File,
+    found: Found,
+    name: &[u8],
+    bytes: &[u8],
+) -> Replaced
+where
+    R::File: AsFd,
+{
+    let error = store(file, found, bytes);
     if error != 0 {
-        os::unlink(own);
+        let _ = unlink(files, own);
         return Replaced::Unwritten(error);
     }
-    if os::rename(own, name) != 0 {
-        let error = last();
-        os::unlink(own);
-        return Replaced::Unrenamed(error);
+    let unrenamed = number(rename(files, own, name));
+    if unrenamed != 0 {
+        let _ = unlink(files, own);
+        return Replaced::Unrenamed(unrenamed);
     }
-    if libc::fsync(folder) != 0 {
-        return Replaced::FolderUnflushed(last());
+    let unflushed = number(folder.sync_all());
+    if unflushed != 0 {
+        return Replaced::FolderUnflushed(unflushed);
     }
     Replaced::Done
 }
 
+// Steps 3 to 6, under this name of its own.
+fn replace_by<R: Files>(
+    files: &R,
+    own: &[u8],
+    folder: &R::File,
+    found: Found,
+    name: &[u8],
+    bytes: &[u8],
+) -> Replaced
+where
+    R::File: AsFd,
+{
+    match create(files, own) {
+        Ok(file) => replace_with(files, file, own, folder, found, name, bytes),
+        Err(error) => Replaced::Unmade(last(&error)),
+    }
+}
+
 // Steps 3 to 6.
-fn replace_in(folder: i32, found: Found, name: &[u8], bytes: &[u8]) -> Replaced
+fn replace_in<R: Files + RandomSource>(
+    rt: &R,
+    folder: &R::File,
+    found: Found,
+    name: &[u8],
+    bytes: &[u8],
+) -> Replaced
+where
+    R::File: AsFd,
     requires { length name.now ≤ path_limit }
 {
-    let mut own = [0u8; libc::PATH_MAX + OWN];
-    let count = own_name(name, &mut own);
-    if count == 0 {
-        return Replaced::Unmade(last());
+    let mut own = [0u8; PATH_MAX + OWN];
+    match own_name(rt, name, &mut own) {
+        Ok(count) => replace_by(rt, &own[..count], folder, found, name, bytes),
+        Err(error) => Replaced::Unmade(last(&error)),
     }
-    replace_by(&own[..count], folder, found, name, bytes)
 }
 
 // Steps 2 to 6, for what may be replaced.
-fn replace_found(found: Found, name: &[u8], bytes: &[u8]) -> Replaced
+fn replace_found<R: Files + RandomSource>(
+    rt: &R,
+    found: Found,
+    name: &[u8],
+    bytes: &[u8],
+) -> Replaced
+where
+    R::File: AsFd,
     requires { length name.now ≤ path_limit }
 {
-    let folder = open_folder(name);
-    if folder < 0 {
-        return Replaced::FolderUnopened(last());
+    match open_folder(rt, name) {
+        Ok(folder) => replace_in(rt, &folder, found, name, bytes),
+        Err(error) => Replaced::FolderUnopened(last(&error)),
     }
-    let replaced = replace_in(folder, found, name, bytes);
-    libc::close(folder);
-    replaced
 }
 
 // Puts a file with these bytes at a name.
-pub fn replace(name: &[u8], bytes: &[u8]) -> Replaced {
-    if name.len() >= libc::PATH_MAX {
-        return Replaced::Unseen(libc::ENAMETOOLONG);
+pub fn replace<R: Files + RandomSource>(rt: &R, name: &[u8], bytes: &[u8]) -> Replaced
+where
+    R::File: AsFd,
+{
+    if name.len() >= PATH_MAX {
+        return Replaced::Unseen(ENAMETOOLONG);
     }
-    let found = find(name);
+    let found = find(rt, name);
     match found {
-        Found::Free => replace_found(found, name, bytes),
-        Found::Plain(_) => replace_found(found, name, bytes),
+        Found::Free => replace_found(rt, found, name, bytes),
+        Found::Plain(_) => replace_found(rt, found, name, bytes),
         Found::Link => Replaced::Link,
         Found::Folder => Replaced::Folder,
         Found::Special => Replaced::Special,

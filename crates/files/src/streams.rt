@@ -1,28 +1,39 @@
 // The standard streams.
 use crate::errors::last;
+use attributes::errors::EBADF;
+use std::fs::{File, Files};
+use std::io;
+use std::os::fd::{AsRawFd, IntoRawFd, RawFd};
+
+// The number of standard error, the last of the three.
+const STDERR_FILENO: RawFd = 2;
 
 // Opens /dev/null for reading, and answers the descriptor. A number above 2 is closed again: nothing was missing below it.
-fn fill_next() -> i32 {
-    let fd = os::open_read(b"/dev/null");
-    if fd > libc::STDERR_FILENO {
-        libc::close(fd);
+fn fill_next<R: Files>(files: &R) -> io::Result<RawFd>
+where
+    R::File: AsRawFd + IntoRawFd,
+{
+    let file = File::open(files, "/dev/null")?;
+    let fd = file.as_raw_fd();
+    if fd > STDERR_FILENO {
+        return Ok(fd);
     }
-    fd
+    Ok(file.into_raw_fd())
 }
 
 // Fills those of standard input, output and error that are closed, so that no file opened later gets their number and is written to by a message.
 // A write to one that was filled fails, as to a closed one. Answers 0, or the error.
-pub fn fill_closed() -> i32 {
+pub fn fill_closed<R: Files>(files: &R) -> i32
+where
+    R::File: AsRawFd + IntoRawFd,
+{
     let mut turns: u32 = 4;
     while turns > 0 {
-        let fd = fill_next();
-        if fd < 0 {
-            return last();
+        match fill_next(files) {
+            Err(error) => return last(&error),
+            Ok(fd) if fd > STDERR_FILENO => return 0,
+            Ok(_) => turns -= 1,
         }
-        if fd > libc::STDERR_FILENO {
-            return 0;
-        }
-        turns -= 1;
     }
-    libc::EBADF
+    EBADF
 }

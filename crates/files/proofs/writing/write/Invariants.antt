@@ -1,0 +1,9 @@
+-- Each turn leaves less to write.
+use Rattle.std.proofs.Common.{length, ◌-◌, ◌≤◌}
+use Rattle.files.proofs.writing.write.Given as goal
+
+abbrev pub invariant-loop-done : goal.invariant-loop-done
+invariant-loop-done g l = l.done ≤ length l.bytes
+
+abbrev pub decreases-loop-done : goal.decreases-loop-done
+decreases-loop-done g l = length l.bytes - l.done
