@@ -1,7 +1,12 @@
 // The words that a program is started with.
+#![tactic(auto)]
+
 ghost use Rattle.std.specs.Prelude.{◌+◌, ◌-◌, ◌*◌, ◌≤◌, min, ◌≡◌};
 ghost use Rattle.table.specs.Verdict.{Says as TableSays};
+ghost use Rattle.io.specs.Counts.{IsPrefixLen};
 ghost use Rattle.words.specs.Decimal.{Says};
+
+use std::env::Env;
 
 // The room that any word fits: the longest that the system hands to a program for x86-64, and one byte more.
 pub const LONGEST: usize = 131_072;
@@ -70,14 +75,21 @@ pub fn same(word: &[u8], text: &[u8]) -> bool
     true
 }
 
+// Takes word i into the room, and answers its length; 0 where there is none, or where it is longer.
+fn take(env: &impl Env, i: usize, room: &mut [u8]) -> usize
+    ensures { IsPrefixLen result room.new }
+{
+    env.arg(i, room).unwrap_or(0)
+}
+
 // What word i says, the program's own name being word 0. It is taken into the room that is lent; a word that is longer says nothing.
-pub fn number(i: usize, room: &mut [u8]) -> Numeral {
-    let count = os::arg(i, room);
+pub fn number(env: &impl Env, i: usize, room: &mut [u8]) -> Numeral {
+    let count = take(env, i, room);
     parse(&room[..count])
 }
 
 // Whether word i is a text. It is taken into the room that is lent; a word that is longer is none.
-pub fn is(i: usize, text: &[u8], room: &mut [u8]) -> bool {
-    let count = os::arg(i, room);
+pub fn is(env: &impl Env, i: usize, text: &[u8], room: &mut [u8]) -> bool {
+    let count = take(env, i, room);
     same(&room[..count], text)
 }
