@@ -1,22 +1,24 @@
 // Lists the superbubbles of the table that stands in the image on standard input: `superbubbles K`, then a line for each, entrance and exit, by rising entrance; or `refused N`.
+#![tactic(auto)]
+
 use layout::Header;
+use std::io::Print;
 
 // Says how the program is called.
-fn usage() {
-    io::write_all(
-        libc::STDOUT_FILENO,
+fn usage(rt: &HostRuntime) {
+    let _ = rt.write_all(
         b"usage: list < IMAGE: prints the superbubbles of the table in an image, each as entrance and exit\n",
     );
 }
 
 // Reads the image, and prints what `list_bytes::answer` makes of it. A word behind the program's name is a mistake: the image comes through `<`.
-fn main() {
-    if os::arg_count() > 1 {
-        usage();
+fn main(rt: HostRuntime) {
+    if exchange::word_count(&rt) > 1 {
+        usage(&rt);
         return;
     }
     let mut image = [0u8; Header::STREAM];
-    let input = exchange::read_input(&mut image, Header::STREAM);
+    let input = exchange::read_input(&rt, &mut image, Header::STREAM);
     if input.error != 0 {
         return;
     }
@@ -24,5 +26,5 @@ fn main() {
     let mut text = [0u8; list_bytes::LONGEST];
     let answer = list_bytes::answer(&image[..count], &mut text);
     let length = answer.length;
-    exchange::print(&text[..length], answer.number);
+    exchange::print(&rt, &text[..length], answer.number);
 }

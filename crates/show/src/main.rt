@@ -1,23 +1,25 @@
 // Prints the table that stands in the image on standard input: `table N M`, in version 2 `table N M lengths`, then for each vertex its number, its count, in version 2 its
 // length, and its successors; or `refused N`.
+#![tactic(auto)]
+
 use layout::Header;
+use std::io::Print;
 
 // Says how the program is called.
-fn usage() {
-    io::write_all(
-        libc::STDOUT_FILENO,
+fn usage(rt: &HostRuntime) {
+    let _ = rt.write_all(
         b"usage: show < IMAGE: prints the table in an image, for each vertex its number, its count, its length if it has one, and its successors\n",
     );
 }
 
 // Reads the image, and prints what `show_bytes::answer` makes of it. A word behind the program's name is a mistake: the image comes through `<`.
-fn main() {
-    if os::arg_count() > 1 {
-        usage();
+fn main(rt: HostRuntime) {
+    if exchange::word_count(&rt) > 1 {
+        usage(&rt);
         return;
     }
     let mut image = [0u8; Header::STREAM];
-    let input = exchange::read_input(&mut image, Header::STREAM);
+    let input = exchange::read_input(&rt, &mut image, Header::STREAM);
     if input.error != 0 {
         return;
     }
@@ -25,5 +27,5 @@ fn main() {
     let mut text = [0u8; show_bytes::LONGEST];
     let answer = show_bytes::answer(&image[..count], &mut text);
     let length = answer.length;
-    exchange::print(&text[..length], answer.number);
+    exchange::print(&rt, &text[..length], answer.number);
 }
