@@ -134,7 +134,7 @@ pub fn lay_contents(
 }
 
 // How long the slices are that a call is to fill, and where the rest of the body begins. Where they do not fit, each is 0.
-#[derive(Drop)]
+#[derive(Clone, Copy)]
 pub struct Room {
     pub fit: bool,
     pub rest: usize,

@@ -31,7 +31,7 @@ fn check_both(lent: Lent, words: &[u32], counts: &[u64]) -> Checked
 }
 
 // Puts both numbers.
-fn put_checked(out: &mut [u8; output::BUFFER], at: usize, checked: Checked) -> usize
+fn put_checked(out: &mut output::Output, at: usize, checked: Checked) -> usize
     requires { Place at }
     ensures { Place result }
 {
@@ -42,7 +42,7 @@ fn put_checked(out: &mut [u8; output::BUFFER], at: usize, checked: Checked) -> u
 
 // The operation `t`: three lengths, then starts, targets and counts.
 pub fn check_case(
-    out: &mut [u8; output::BUFFER],
+    out: &mut output::Output,
     at: usize,
     body: &[u8],
     words: &mut [u32],

@@ -70,7 +70,7 @@ fn fold_rooms(
 }
 
 // Puts the name of the operation's fold.
-fn put_name(out: &mut [u8; output::BUFFER], at: usize, operation: u8) -> usize
+fn put_name(out: &mut output::Output, at: usize, operation: u8) -> usize
     requires { Place at }
     ensures { Place result }
 {
@@ -83,7 +83,7 @@ fn put_name(out: &mut [u8; output::BUFFER], at: usize, operation: u8) -> usize
 }
 
 // Puts the name and what the fold answered.
-fn put_folded(out: &mut [u8; output::BUFFER], at: usize, operation: u8, folded: Folded) -> usize
+fn put_folded(out: &mut output::Output, at: usize, operation: u8, folded: Folded) -> usize
     requires { Place at }
     ensures { Place result }
 {
@@ -96,7 +96,7 @@ fn put_folded(out: &mut [u8; output::BUFFER], at: usize, operation: u8, folded: 
 
 // Folds a table into slices whose numbers are all 7, and puts the answer and these as the call left them.
 fn fold_lent(
-    out: &mut [u8; output::BUFFER],
+    out: &mut output::Output,
     at: usize,
     operation: u8,
     budget: u32,
@@ -135,7 +135,7 @@ fn fold_lent(
 
 // The operations `f`, `g`, `r` and `q`: the budget, the rooms of the second set of slices, three lengths, then starts, targets and counts.
 pub fn fold_case(
-    out: &mut [u8; output::BUFFER],
+    out: &mut output::Output,
     at: usize,
     operation: u8,
     body: &[u8],

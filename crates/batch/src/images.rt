@@ -13,7 +13,7 @@ use image::{Extent, Sizes};
 use layout::Header;
 
 // The operation `s`: a stream.
-pub fn show_case(out: &mut [u8; output::BUFFER], at: usize, body: &[u8]) -> Step
+pub fn show_case(out: &mut output::Output, at: usize, body: &[u8]) -> Step
     requires { Place at }
     ensures { Place result.place }
 {
@@ -80,7 +80,7 @@ fn write_room(
 }
 
 // Puts the name of what writes a version.
-fn put_name(out: &mut [u8; output::BUFFER], at: usize, version: u32) -> usize
+fn put_name(out: &mut output::Output, at: usize, version: u32) -> usize
     requires { Place at }
     ensures { Place result }
 {
@@ -92,7 +92,7 @@ fn put_name(out: &mut [u8; output::BUFFER], at: usize, version: u32) -> usize
 
 // Puts the name, the answer, and so much of the image slice as the room says.
 fn put_written(
-    out: &mut [u8; output::BUFFER],
+    out: &mut output::Output,
     at: usize,
     version: u32,
     extent: Extent,
@@ -112,7 +112,7 @@ fn put_written(
 
 // Writes an image, and puts the answer and so much of the slice as the room says.
 fn write_lent(
-    out: &mut [u8; output::BUFFER],
+    out: &mut output::Output,
     at: usize,
     version: u32,
     room: usize,
@@ -137,7 +137,7 @@ fn write_lent(
 // The operations `w` and `x`: the room of the image slice, whose bytes are all 165, the lengths of the slices, three for version 1 and four for version 2, then starts,
 // targets and counts, and for version 2 lengths.
 pub fn write_case(
-    out: &mut [u8; output::BUFFER],
+    out: &mut output::Output,
     at: usize,
     operation: u8,
     body: &[u8],
@@ -161,7 +161,7 @@ pub fn write_case(
 }
 
 // Puts a name, and the number, version, n and m that look or load answered.
-fn put_sizes(out: &mut [u8; output::BUFFER], at: usize, name: &[u8], sizes: Sizes) -> usize
+fn put_sizes(out: &mut output::Output, at: usize, name: &[u8], sizes: Sizes) -> usize
     requires { Place at }
     ensures { Place result }
 {
@@ -198,13 +198,7 @@ fn load_rooms(
 }
 
 // Loads an image into slices whose numbers are all 7, and puts a name, the answer and these as the call left them.
-fn put_loaded(
-    out: &mut [u8; output::BUFFER],
-    at: usize,
-    name: &[u8],
-    stream: &[u8],
-    room: Room,
-) -> usize
+fn put_loaded(out: &mut output::Output, at: usize, name: &[u8], stream: &[u8], room: Room) -> usize
     requires { (Place at)
         × (room.starts ≤ 2 * vertex_limit)
         × (room.targets ≤ 2 * edge_limit)
@@ -231,7 +225,7 @@ fn put_loaded(
 }
 
 // The operation `k`: a stream. Where look accepts it, it is loaded into slices of exactly n + 1, m and n, and as many lengths as its version has.
-pub fn look_case(out: &mut [u8; output::BUFFER], at: usize, body: &[u8]) -> Step
+pub fn look_case(out: &mut output::Output, at: usize, body: &[u8]) -> Step
     requires { Place at }
     ensures { Place result.place }
 {
@@ -255,7 +249,7 @@ pub fn look_case(out: &mut [u8; output::BUFFER], at: usize, body: &[u8]) -> Step
 }
 
 // The operation `d`: the rooms of the four slices, then a stream.
-pub fn load_case(out: &mut [u8; output::BUFFER], at: usize, body: &[u8]) -> Step
+pub fn load_case(out: &mut output::Output, at: usize, body: &[u8]) -> Step
     requires { Place at }
     ensures { Place result.place }
 {

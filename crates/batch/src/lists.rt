@@ -11,7 +11,7 @@ use crate::step::{Step, answered, bad_case};
 
 // Lists the superbubbles of a table into so much of the slice as the room says, and puts the answer and that much as the call left it.
 fn put_listed(
-    out: &mut [u8; output::BUFFER],
+    out: &mut output::Output,
     at: usize,
     room: usize,
     lent: Lent,
@@ -34,7 +34,7 @@ fn put_listed(
 }
 
 // The operation `l`: the room of the list slice, whose numbers are all 7, two lengths, then starts and targets.
-pub fn list_case(out: &mut [u8; output::BUFFER], at: usize, body: &[u8], words: &mut [u32]) -> Step
+pub fn list_case(out: &mut output::Output, at: usize, body: &[u8], words: &mut [u32]) -> Step
     requires { Place at }
     ensures { Place result.place }
 {
@@ -57,7 +57,7 @@ fn judge_lent(lent: Lent, words: &[u32], s: u32, t: u32) -> judging::Judgement
 }
 
 // Puts what judging answered.
-fn put_judged(out: &mut [u8; output::BUFFER], at: usize, judged: judging::Judgement) -> usize
+fn put_judged(out: &mut output::Output, at: usize, judged: judging::Judgement) -> usize
     requires { Place at }
     ensures { Place result }
 {
@@ -67,7 +67,7 @@ fn put_judged(out: &mut [u8; output::BUFFER], at: usize, judged: judging::Judgem
 }
 
 // The operation `j`: the pair, two lengths, then starts and targets.
-pub fn judge_case(out: &mut [u8; output::BUFFER], at: usize, body: &[u8], words: &mut [u32]) -> Step
+pub fn judge_case(out: &mut output::Output, at: usize, body: &[u8], words: &mut [u32]) -> Step
     requires { Place at }
     ensures { Place result.place }
 {

@@ -2,6 +2,8 @@
 //
 // A case is one byte, the operation; 32 bits, the length of the body; and the body. All numbers are little-endian. A case that is cut off, has an unknown operation, or a body
 // that does not fit its operation ends the run with the line `bad case`.
+#![tactic(auto)]
+
 mod bodies;
 mod bytes;
 mod checks;
@@ -43,14 +45,14 @@ fn cut_off() -> Case
 }
 
 // Reads the body of a case behind its head.
-fn read_body(head: &[u8; 5], body: &mut [u8]) -> Case
+fn read_body(rt: &HostRuntime, head: &[u8; 5], body: &mut [u8]) -> Case
     ensures { result.length ≤ length body.new }
 {
     let length = number(head, 1) as usize;
     if length > body.len() {
         return cut_off();
     }
-    let came = files::read(libc::STDIN_FILENO, body, length);
+    let came = files::read(&mut rt.stdin(), body, length);
     if came.error != 0 || came.count < length {
         return cut_off();
     }
@@ -62,11 +64,11 @@ fn read_body(head: &[u8; 5], body: &mut [u8]) -> Case
 }
 
 // Reads a case, or finds the input at its end.
-fn next_case(body: &mut [u8]) -> Case
+fn next_case(rt: &HostRuntime, body: &mut [u8]) -> Case
     ensures { result.length ≤ length body.new }
 {
     let mut head = [0u8; 5];
-    let came = files::read(libc::STDIN_FILENO, &mut head, 5);
+    let came = files::read(&mut rt.stdin(), &mut head, 5);
     if came.error != 0 {
         return cut_off();
     }
@@ -80,12 +82,12 @@ fn next_case(body: &mut [u8]) -> Case
     if came.count < 5 {
         return cut_off();
     }
-    read_body(&head, body)
+    read_body(rt, &head, body)
 }
 
 // Answers a case.
 fn answer(
-    out: &mut [u8; output::BUFFER],
+    out: &mut output::Output,
     at: usize,
     operation: u8,
     body: &[u8],
@@ -110,7 +112,8 @@ fn answer(
 
 // Reads and answers one case, or finds the input at its end.
 fn one_case(
-    out: &mut [u8; output::BUFFER],
+    rt: &HostRuntime,
+    out: &mut output::Output,
     at: usize,
     body: &mut [u8],
     words: &mut [u32],
@@ -119,7 +122,7 @@ fn one_case(
     requires { Place at }
     ensures { Place result.place }
 {
-    let case = next_case(body);
+    let case = next_case(rt, body);
     if !case.more {
         return last(at);
     }
@@ -136,17 +139,18 @@ fn turns_left(turns: u64, more: bool) -> u64
 }
 
 // Writes out what is left, and says so where it could not be written.
-fn finish(out: &[u8; output::BUFFER], at: usize)
+fn finish(rt: &HostRuntime, out: &output::Output, at: usize)
     requires { Place at }
 {
     if !output::flush(out, at) {
-        messages::unprinted();
+        messages::unprinted(&rt.stderr());
     }
 }
 
 // Answers every case, and writes out what is left. A proved loop has to end, and nothing says that the input does: so it counts its turns down, from a number that no run uses up.
 fn all_cases(
-    out: &mut [u8; output::BUFFER],
+    rt: &HostRuntime,
+    out: &mut output::Output,
     body: &mut [u8],
     words: &mut [u32],
     counts: &mut [u64],
@@ -154,17 +158,17 @@ fn all_cases(
     let mut turns = u64::MAX;
     let mut at = 0;
     while turns > 0 {
-        let step = one_case(out, at, body, words, counts);
+        let step = one_case(rt, out, at, body, words, counts);
         at = step.place;
         turns = turns_left(turns, step.more);
     }
-    finish(out, at);
+    finish(rt, out, at);
 }
 
-fn main() {
-    let mut out = io::buffer();
+fn main(rt: HostRuntime) {
+    let mut out = output::empty(rt.stdout());
     let mut body = [0u8; BODY];
     let mut words = [0u32; VERTICES + EDGES];
     let mut counts = [0u64; VERTICES];
-    all_cases(&mut out, &mut body, &mut words, &mut counts);
+    all_cases(&rt, &mut out, &mut body, &mut words, &mut counts);
 }

@@ -6,7 +6,7 @@ use crate::bodies::Room;
 use crate::output;
 
 // Puts a name and a number.
-pub fn put_named(out: &mut [u8; output::BUFFER], at: usize, name: &[u8], number: u32) -> usize
+pub fn put_named(out: &mut output::Output, at: usize, name: &[u8], number: u32) -> usize
     requires { Place at }
     ensures { Place result }
 {
@@ -15,13 +15,7 @@ pub fn put_named(out: &mut [u8; output::BUFFER], at: usize, name: &[u8], number:
 }
 
 // Puts the name of an answer, its number, and the number that follows.
-pub fn put_head(
-    out: &mut [u8; output::BUFFER],
-    at: usize,
-    name: &[u8],
-    number: u32,
-    next: usize,
-) -> usize
+pub fn put_head(out: &mut output::Output, at: usize, name: &[u8], number: u32, next: usize) -> usize
     requires { Place at }
     ensures { Place result }
 {
@@ -30,7 +24,7 @@ pub fn put_head(
 }
 
 // Puts a number in four bytes.
-fn put_word(out: &mut [u8; output::BUFFER], at: usize, x: u64) -> usize
+fn put_word(out: &mut output::Output, at: usize, x: u64) -> usize
     requires { Place at }
     ensures { Place result }
 {
@@ -41,7 +35,7 @@ fn put_word(out: &mut [u8; output::BUFFER], at: usize, x: u64) -> usize
 }
 
 // Puts the first `count` numbers, each in four bytes.
-pub fn put_words(out: &mut [u8; output::BUFFER], at: usize, numbers: &[u32], count: usize) -> usize
+pub fn put_words(out: &mut output::Output, at: usize, numbers: &[u32], count: usize) -> usize
     requires { (Place at) × (count ≤ length numbers.now) }
     ensures { Place result }
 {
@@ -55,7 +49,7 @@ pub fn put_words(out: &mut [u8; output::BUFFER], at: usize, numbers: &[u32], cou
 }
 
 // Puts the first `count` numbers, each in eight bytes.
-pub fn put_longs(out: &mut [u8; output::BUFFER], at: usize, numbers: &[u64], count: usize) -> usize
+pub fn put_longs(out: &mut output::Output, at: usize, numbers: &[u64], count: usize) -> usize
     requires { (Place at) × (count ≤ length numbers.now) }
     ensures { Place result }
 {
@@ -71,7 +65,7 @@ pub fn put_longs(out: &mut [u8; output::BUFFER], at: usize, numbers: &[u64], cou
 }
 
 // Puts the first `count` numbers, each in two bytes.
-pub fn put_halves(out: &mut [u8; output::BUFFER], at: usize, numbers: &[u16], count: usize) -> usize
+pub fn put_halves(out: &mut output::Output, at: usize, numbers: &[u16], count: usize) -> usize
     requires { (Place at) × (count ≤ length numbers.now) }
     ensures { Place result }
 {
@@ -88,7 +82,7 @@ pub fn put_halves(out: &mut [u8; output::BUFFER], at: usize, numbers: &[u16], co
 
 // Ends a line, and puts as many starts, targets and counts as the rooms say.
 pub fn put_table(
-    out: &mut [u8; output::BUFFER],
+    out: &mut output::Output,
     at: usize,
     room: Room,
     starts: &[u32],

@@ -31,7 +31,7 @@ pub fn last(at: usize) -> Step
 }
 
 // A case that cannot be answered.
-pub fn bad_case(out: &mut [u8; output::BUFFER], at: usize) -> Step
+pub fn bad_case(out: &mut output::Output, at: usize) -> Step
     requires { Place at }
     ensures { Place result.place }
 {
