@@ -1,4 +1,6 @@
 // Fold, with rings refused or taken, from the bytes of an image and a budget to the bytes of the line that is printed and of the image that is written.
+#![tactic(auto)]
+
 ghost use Rattle.std.specs.Prelude.{◌≡◌};
 ghost use Rattle.io.specs.Counts.{IsPrefixLen};
 ghost use Rattle.layout.specs.Image.{SoundContents};
