@@ -1,7 +1,7 @@
 -- What the contract of fold gives for every lawful way of folding: a table of its kind, with room, is folded by its rule; the next call accepts what the last one left;
 -- and calls in turn end as one call with the sum. `Demand2` and `Demand3` say it of the fold of today. Assumes nothing.
 use Prim.Native.Nat.{ℕ, ◌+◌, ◌≤◌}
-use mathlib.Core.Path.{◌≡◌, sym, ap, ◌∙◌}
+use mathlib.Core.Path.{◌≡◌, sym, ◌∙◌}
 use mathlib.Core.List.{List}
 use native.Mathlib.Omega.{arith}
 use lib.ListN.{length}

@@ -10,7 +10,7 @@ use lib.ListN.{length, take, drop}
 use Rattle.table.specs.Verdict.{Demand, Verdict}
 use Rattle.table.specs.Table.{Below, Table, size, edges}
 use Rattle.table.proofs.VerdictLaws.{verdict_unique}
-use Rattle.layout.specs.Image.{Contents, image_of, version_of, vertices_of, edges_of, lengths_of, table_of, contents_of}
+use Rattle.layout.specs.Image.{image_of, version_of, vertices_of, edges_of, lengths_of, table_of, contents_of}
 use Rattle.layout.proofs.ImageLaws.{starts_long, targets_long}
 use Rattle.image.specs.declared.header.Sizes.{Sizes}
 use Rattle.image.specs.Looking.{image_demands, Looked}

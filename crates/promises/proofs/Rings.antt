@@ -6,7 +6,6 @@ use mathlib.Core.Logic.{◌≢◌, ◌↔◌, inl}
 use mathlib.Core.List.{List, [], ◌∷◌, Memᴰ}
 use native.Mathlib.Omega.{arith}
 use lib.ListN.{length, get_or}
-use Rattle.table.specs.Verdict.{Verdict}
 use Rattle.table.specs.Table.{count_sum, Table, edges, SoundTable}
 use Rattle.table.proofs.RowLaws.{edges_below}
 use Rattle.table.proofs.VerdictLaws.{met_is_passed}

@@ -163,9 +163,13 @@ paths (then {v = v} e r) =
           inr (rw (q, s) refl)
     ]
 
+-- lists of which one is earlier differ
+earlier_differ : {l k : List ℕ} → Earlier l k → l ≡ k → ⊥
+earlier_differ (here {u = u} {v = v} {l = l} {k = k} h) q = let r : u ≡ v = cc in omega (arith, r)
+earlier_differ (later {v = v} {l = l} {k = k} e) q = let r : l ≡ k = cc in earlier_differ e r
+
 never : {l : List ℕ} → Earlier l l → ⊥
-never (here h) = omega arith
-never (later e) = never e
+never e = earlier_differ e refl
 
 larger_first : Earlier (3 ∷ 4 ∷ []) (1 ∷ 2 ∷ 4 ∷ []) → ⊥
 larger_first (here h) = omega arith

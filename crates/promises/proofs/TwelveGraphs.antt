@@ -137,6 +137,7 @@ line (p ∷ ps) (suc i) h =
     (q, Memᴰ.tail m, rw (double i) s, rw (double_one i) t)
 
 stands : (ps : List (ℕ × ℕ)) (p : ℕ × ℕ) → Memᴰ p ps → Stands (flat ps) (length ps) p.0 p.1
+stands [] p x' = elim x' [ ]
 stands (q ∷ ps) p (Memᴰ.head e) =
     record { line = 0; within = suc-le-suc zero-le; entrance = ap (λ (x : ℕ × ℕ). x.0) (sym e); exit = ap (λ (x : ℕ × ℕ). x.1) (sym e) }
 stands (q ∷ ps) p (Memᴰ.tail m) =
