@@ -20,7 +20,6 @@ pub fn words_of(error: i64) -> String {
         30 => "its disk can only be read",
         36 => "the name is too long: give a shorter one",
         40 => "the name leads through too many links",
-        84 => "the name is no text in UTF-8: give one that is",
         _ => return format!("the system's error {error}"),
     };
     words.to_string()

@@ -54,5 +54,5 @@ pub const ENAMETOOLONG: i32 = 36;
 // There are too many links.
 pub const ELOOP: i32 = 40;
 
-// The bytes are no text.
-pub const EILSEQ: i32 = 84;
+// A name is no text in UTF-8. The system has no such number: its own end below this one.
+pub const NOT_TEXT: i32 = 4_096;

@@ -6,7 +6,7 @@ ghost use Rattle.attributes.specs.Paths.{Ended, Status};
 
 pub mod errors;
 
-use errors::EILSEQ;
+use errors::NOT_TEXT;
 use std::fs::{Files, Metadata};
 use std::os::unix::fs::MetadataExt;
 use std::{fs, io};
@@ -17,7 +17,7 @@ pub const PATH_MAX: usize = 4096;
 const LAST: usize = PATH_MAX - 1;
 
 // What is said of a file. Its status is 0, or -1 with the system's error, or with 0 where that gave no number; then the rest says nothing.
-#[derive(Drop)]
+#[derive(Clone, Copy)]
 pub struct Seen {
     pub status: i32,
     pub error: i32,
@@ -40,13 +40,13 @@ fn extent(path: &[u8; PATH_MAX]) -> usize
     end
 }
 
-// A name as the library takes it, which is text in UTF-8. For one that is none the error is the one that the system has for such bytes.
+// A name as the library takes it, which is text in UTF-8. For one that is none the error is NOT_TEXT.
 pub fn text(name: &[u8]) -> io::Result<&str>
     ensures { IfOk result (λ text. text.now ≡ name.now) }
 {
     match std::str::from_utf8(name) {
         Ok(text) => Ok(text),
-        Err(_) => Err(io::Error::from_raw_os_error(EILSEQ)),
+        Err(_) => Err(io::Error::from_raw_os_error(NOT_TEXT)),
     }
 }
 

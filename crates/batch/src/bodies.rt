@@ -7,7 +7,7 @@ use crate::most::{EDGES, VERTICES};
 use layout::{Header, read_halves, read_longs, read_words};
 
 // Where a table lies: its starts before the place `starts`, its targets from there to the place `rows`, so many counts, and so many lengths. Where it does not fit, each is 0.
-#[derive(Drop)]
+#[derive(Clone, Copy)]
 pub struct Lent {
     pub fit: bool,
     pub starts: usize,

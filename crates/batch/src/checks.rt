@@ -8,7 +8,7 @@ use crate::puts::put_named;
 use crate::step::{Step, answered, bad_case};
 
 // The number of a table without its counts, and with them.
-#[derive(Drop)]
+#[derive(Clone, Copy)]
 struct Checked {
     without: u32,
     counted: u32,

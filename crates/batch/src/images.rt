@@ -161,7 +161,7 @@ pub fn write_case(
 }
 
 // Puts a name, and the number, version, n and m that look or load answered.
-fn put_sizes(out: &mut output::Output, at: usize, name: &[u8], sizes: &Sizes) -> usize
+fn put_sizes(out: &mut output::Output, at: usize, name: &[u8], sizes: Sizes) -> usize
     requires { Place at }
     ensures { Place result }
 {
@@ -218,7 +218,7 @@ fn put_loaded(out: &mut output::Output, at: usize, name: &[u8], stream: &[u8], r
         &mut counts,
         &mut lengths,
     );
-    let mut place = put_sizes(out, at, name, &sizes);
+    let mut place = put_sizes(out, at, name, sizes);
     place = put_table(out, place, room, &starts, &targets, &counts);
     place = put_halves(out, place, &lengths, room.lengths);
     output::byte(out, place, b'\n')
@@ -233,7 +233,7 @@ pub fn look_case(out: &mut output::Output, at: usize, body: &[u8]) -> Step
         return bad_case(out, at);
     }
     let sizes = image::look(body);
-    let place = put_sizes(out, at, b"look", &sizes);
+    let place = put_sizes(out, at, b"look", sizes);
     if sizes.number != 0 {
         return answered(output::byte(out, place, b'\n'));
     }

@@ -27,7 +27,7 @@ use most::{BODY, EDGES, VERTICES};
 use step::{Step, bad_case, last};
 
 // A case as it was read: whether there is one, its operation, and the length of its body. One that is cut off, too long or could not be read has the operation 0, which is none.
-#[derive(Drop)]
+#[derive(Clone, Copy)]
 struct Case {
     more: bool,
     operation: u8,

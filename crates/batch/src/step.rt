@@ -4,7 +4,7 @@ ghost use Rattle.batch.specs.Buffer.{Place};
 
 use crate::output;
 
-#[derive(Drop)]
+#[derive(Clone, Copy)]
 pub struct Step {
     pub more: bool,
     pub place: usize,

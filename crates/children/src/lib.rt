@@ -9,7 +9,7 @@ ghost use Rattle.children.specs.Children.{Weighable, Choosable, Chosen};
 use rule::Choosing;
 
 // A child, and what a path gains that goes on to it.
-#[derive(Drop)]
+#[derive(Clone, Copy)]
 pub struct Choice {
     pub child: u32,
     pub gain: u64,

@@ -18,7 +18,7 @@ const S_IFDIR: u32 = 0o040_000;
 const S_IFLNK: u32 = 0o120_000;
 
 // The nine rights of a plain file, and its owner.
-#[derive(Drop)]
+#[derive(Clone, Copy)]
 pub struct Old {
     pub rights: u32,
     pub owner: u32,
@@ -26,7 +26,7 @@ pub struct Old {
 }
 
 // What was found at a name, a link not being followed.
-#[derive(Drop)]
+#[derive(Clone, Copy)]
 pub enum Found {
     Free,
     Plain(Old),
@@ -73,7 +73,7 @@ fn kind_of(files: &impl Files, name: &[u8], mode: u32, owner: u32, group: u32) -
     })
 }
 
-// Looks at what stands at a name. Nothing but a plain file is opened, so a pipe is not waited for and a device does nothing.
+// Looks at what stands at a name. Only what was seen to be a plain file is opened: a pipe is not waited for and a device does nothing, unless one is put there in between.
 pub fn find(files: &impl Files, name: &[u8]) -> Found
     requires { length name.now < path_limit }
 {

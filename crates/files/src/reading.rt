@@ -9,7 +9,7 @@ use std::io;
 use std::io::Read;
 
 // What a reading answers: 0 and how many bytes came, or the error and 0.
-#[derive(Drop)]
+#[derive(Clone, Copy)]
 pub struct Input {
     pub error: i32,
     pub count: usize,

@@ -1,7 +1,7 @@
 // A file replaced by another, so that its name leads to the old one or to the new one, whole, at any moment.
 //
 // The steps, and why each stands where it does:
-//  1. look at what stands at the name: only a plain file that may be written, or nothing, is replaced. Nothing but a plain file is opened for it, and that is left as it is;
+//  1. look at what stands at the name: only a plain file that may be written, or nothing, is replaced. Only what was seen to be a plain file is opened for it, and it is left as it is;
 //  2. open the folder: where it cannot be opened it cannot be flushed at the end, so this fails before anything is made;
 //  3. make a file under a name of its own in the same folder, only if that name is free: two runs never share it, and a rename within a folder is one step;
 //  4. give it the old one's owner and rights, before there is anything in it to read; write it, flush it to the disk and close it:
@@ -26,7 +26,7 @@ use std::random::RandomSource;
 use std::{fs, io};
 
 // What replacing a file came to. Each number is the system's error.
-#[derive(Drop)]
+#[derive(Clone, Copy)]
 pub enum Replaced {
     Done,
     Link,

@@ -16,7 +16,7 @@ use table::{EDGE_LIMIT, START_LIMIT, VERTEX_LIMIT};
 pub const LONGEST: usize = 81;
 
 // What a fold answers: the number of a refusal, or 0, and how many bytes of the line and of the new image stand at the fronts of their buffers.
-#[derive(Drop)]
+#[derive(Clone, Copy)]
 pub struct Answers {
     pub number: u32,
     pub line: usize,

@@ -11,7 +11,7 @@ use rule::{Choosing, Mode, Rings};
 use table::VERTEX_LIMIT;
 
 // What folding answers: the number, how many were folded, how many candidates remain in the new table, and the new edge count.
-#[derive(Drop)]
+#[derive(Clone, Copy)]
 pub struct Folded {
     pub number: u32,
     pub folded: usize,

@@ -9,7 +9,7 @@ use layout::{Header, wide, word};
 use table::{EDGE_LIMIT, VERTEX_LIMIT};
 
 // What look and load answer: the number, the version, n and m.
-#[derive(Drop)]
+#[derive(Clone, Copy)]
 pub struct Sizes {
     pub number: u32,
     pub version: u32,

@@ -6,7 +6,7 @@ use std::io::Print;
 use words::Numeral;
 
 // What a word says of a vertex.
-#[derive(Drop)]
+#[derive(Clone, Copy)]
 enum Vertex {
     Number(u32),
     Wrong,

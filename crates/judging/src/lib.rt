@@ -20,7 +20,7 @@ const SMALL: usize = 64;
 const MIDDLING: usize = 256;
 
 // What judge answers: the number, yes or no, and the number of vertices in U.
-#[derive(Drop)]
+#[derive(Clone, Copy)]
 pub struct Judgement {
     pub number: u32,
     pub yes: bool,

@@ -12,7 +12,7 @@ use sharing::share;
 use table::READ_LIMIT;
 
 // The next vertex of the kept path, its inner vertices so far, and the sum of the counts dropped so far.
-#[derive(Drop)]
+#[derive(Clone, Copy)]
 pub struct Along {
     pub kept: u32,
     pub inner: u64,

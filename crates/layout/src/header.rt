@@ -7,7 +7,7 @@ ghost use Rattle.layout.specs.Lengths.{length_count};
 use crate::bytes::put_word;
 
 // What a header says of its image: version, n and m.
-#[derive(Drop)]
+#[derive(Clone, Copy)]
 pub struct Header {
     pub version: u32,
     pub vertices: u32,

@@ -12,7 +12,7 @@ use search::{Exit, search};
 use table::VERTEX_LIMIT;
 
 // What list answers: the number, and how many superbubbles were found.
-#[derive(Drop)]
+#[derive(Clone, Copy)]
 pub struct Found {
     pub number: u32,
     pub found: usize,

@@ -38,7 +38,7 @@ fn say_error(out: &impl Print, error: i32) {
         errors::EROFS => say(out, b"its disk can only be read"),
         errors::ENAMETOOLONG => say(out, b"the name is too long: give a shorter one"),
         errors::ELOOP => say(out, b"the name leads through too many links"),
-        errors::EILSEQ => say(out, b"the name is no text in UTF-8: give one that is"),
+        errors::NOT_TEXT => say(out, b"the name is no text in UTF-8: give one that is"),
         _ => say_number(out, error),
     }
 }

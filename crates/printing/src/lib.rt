@@ -8,7 +8,7 @@ ghost use Rattle.printing.specs.Put.{AtFront, Put};
 use layout::Header;
 
 // What a program answers: the number of a refusal, or 0, and how many bytes of text stand at the front of the buffer.
-#[derive(Drop)]
+#[derive(Clone, Copy)]
 pub struct Answer {
     pub number: u32,
     pub length: usize,

@@ -10,7 +10,7 @@ use parents::tally;
 use walking::{Front, walk};
 
 // What a search found, and how many vertices it visited.
-#[derive(Drop)]
+#[derive(Clone, Copy)]
 pub struct Run {
     pub exit: Exit,
     pub visited: usize,

@@ -15,7 +15,7 @@ pub const EDGE_LIMIT: usize = 8_192;
 pub const READ_LIMIT: u64 = 1_099_511_627_775;
 
 // All of them.
-#[derive(Drop)]
+#[derive(Clone, Copy)]
 pub struct Limits {
     pub vertices: usize,
     pub starts: usize,

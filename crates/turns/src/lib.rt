@@ -14,7 +14,7 @@ use rule::Mode;
 use table::VERTEX_LIMIT;
 
 // How many candidates there are, and how many were folded.
-#[derive(Drop)]
+#[derive(Clone, Copy)]
 pub struct Turned {
     pub found: usize,
     pub folded: usize,

@@ -12,7 +12,7 @@ use std::env::Env;
 pub const LONGEST: usize = 131_072;
 
 // What a word says where a number is due.
-#[derive(Drop)]
+#[derive(Clone, Copy)]
 pub enum Numeral {
     Is(u32),
     TooLarge,

@@ -9,7 +9,7 @@ ghost use Rattle.writing.specs.Writing.{contents_demands, Written};
 use layout::{Header, write_halves, write_longs, write_words};
 
 // What writing an image answers: the number, and the length on success.
-#[derive(Drop)]
+#[derive(Clone, Copy)]
 pub struct Extent {
     pub number: u32,
     pub length: usize,
