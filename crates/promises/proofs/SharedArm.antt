@@ -19,6 +19,7 @@ use Rattle.rule.specs.declared.Choosing.{Choosing}
 use Rattle.rule.specs.declared.Choosing.TheVariants.{Sum, Weakest}
 use Rattle.rule.specs.Way.{plain, the_fold}
 use Rattle.rule.specs.Fold.{to_each, NoCycle, Candidate, kept_shares, Entrance, Item, Stays, Applied}
+use Rattle.rule.proofs.Choice.{earlier_not_self}
 use Rattle.rule.proofs.Following.{follows_tail}
 use Rattle.rule.proofs.Budgets.{folded_of}
 use Rattle.rule.proofs.TableDemand.{table_folds_coincide}
@@ -163,13 +164,8 @@ paths (then {v = v} e r) =
           inr (rw (q, s) refl)
     ]
 
--- lists of which one is earlier differ
-earlier_differ : {l k : List ℕ} → Earlier l k → l ≡ k → ⊥
-earlier_differ (here {u = u} {v = v} {l = l} {k = k} h) q = let r : u ≡ v = cc in omega (arith, r)
-earlier_differ (later {v = v} {l = l} {k = k} e) q = let r : l ≡ k = cc in earlier_differ e r
-
 never : {l : List ℕ} → Earlier l l → ⊥
-never e = earlier_differ e refl
+never {l = l} e = earlier_not_self l e
 
 larger_first : Earlier (3 ∷ 4 ∷ []) (1 ∷ 2 ∷ 4 ∷ []) → ⊥
 larger_first (here h) = omega arith

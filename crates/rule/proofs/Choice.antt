@@ -46,7 +46,7 @@ earlier_differ : {l k : List ℕ} → Earlier l k → l ≡ k → ⊥
 earlier_differ (here {u = u} {v = v} {l = l} {k = k} h) q = let r : u ≡ v = cc in omega (arith, r)
 earlier_differ (later {v = v} {l = l} {k = k} o) q = let r : l ≡ k = cc in earlier_differ o r
 
-earlier_not_self : (l : List ℕ) → Earlier l l → ⊥
+pub earlier_not_self : (l : List ℕ) → Earlier l l → ⊥
 earlier_not_self l o = earlier_differ o refl
 
 earlier_on : {l k m : List ℕ} → Earlier l k → Earlier k m → Earlier l m
