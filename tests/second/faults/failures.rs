@@ -165,11 +165,12 @@ impl Failure {
     }
 
     /// To what nothing was written, or what was flushed, there is nothing to lose when it is closed;
-    /// not everyone may give a file away; an answer is true without its reason; and an open that was
-    /// interrupted, or a write that took nothing, may be tried again.
+    /// not everyone may give a file away; an answer is true without its reason; and an open of IN that
+    /// was interrupted, or a write that took nothing, may be tried again.
     fn may_be_passed_over(self) -> bool {
         [CloseNull, CloseIn, CloseOut, CloseNew, CloseFolder, SetOwner, Say].contains(&self.step)
-            || matches!(self.action, Action::Fail(EINTR) | Action::Shorten(_))
+            || self.step == OpenIn && matches!(self.action, Action::Fail(EINTR))
+            || matches!(self.action, Action::Shorten(_))
     }
 }
 
