@@ -3,6 +3,7 @@ use Prim.Native.Nat.{ℕ, ◌+◌, ◌≤◌, ◌<◌}
 use mathlib.Core.Path.{◌≡◌, sym, ap}
 use mathlib.Core.List.{List}
 use native.Mathlib.Omega.{arith}
+use borrow.Author.Rules.{rules}
 use lib.ListN.{length}
 use Rattle.layout.specs.Lengths.{length_count}
 use Rattle.layout.proofs.LengthLaws.{lengths_each}
@@ -16,11 +17,11 @@ inside version v lengths h two = omega (arith, lengths_each version (v + 1) two)
 
 pub offset_bounds-lengths-v : goal.offset_bounds-lengths-v
 offset_bounds-lengths-v c =
-    omega (arith, (inside c.args.version c.args.v c.args.lengths.now c.requires.v_in_bounds c.if-version-eq-VERSION_2.true))
+    omega (arith, (inside c.args.version c.args.v c.args.lengths.now c.requires.v_in_bounds (search rules)))
 
 pub bounds-lengths-v : goal.bounds-lengths-v
 bounds-lengths-v c =
-    (inside c.args.version c.args.v c.args.lengths.now c.requires.v_in_bounds c.if-version-eq-VERSION_2.true)
+    (inside c.args.version c.args.v c.args.lengths.now c.requires.v_in_bounds (search rules))
 
 pub overflow_cast-lengths : goal.overflow_cast-lengths
 overflow_cast-lengths c =
@@ -28,12 +29,12 @@ overflow_cast-lengths c =
 
 pub next_number-requires : goal.next_number-requires
 next_number-requires c =
-    omega (arith, c.requires.v_in_bounds_2, ap length (length_put c.args.version c.args.lengths.now c.args.v c.if-version-eq-VERSION_2.true))
+    omega (arith, c.requires.v_in_bounds_2, ap length (length_put c.args.version c.args.lengths.now c.args.v (search rules)))
 
 pub returns-then-version-eq-VERSION_2 : goal.returns-then-version-eq-VERSION_2
 returns-then-version-eq-VERSION_2 c =
-    put_same (sym (length_put c.args.version c.args.lengths.now c.args.v c.if-version-eq-VERSION_2.true)) c.next_number.ensures
+    put_same (sym (length_put c.args.version c.args.lengths.now c.args.v (search rules))) c.next_number.ensures
 
 pub returns : goal.returns
 returns c =
-    put_same (sym (no_length_put c.args.version c.args.lengths.now c.args.v c.if-version-eq-VERSION_2.false)) put_nothing
+    put_same (sym (no_length_put c.args.version c.args.lengths.now c.args.v (search rules))) put_nothing
