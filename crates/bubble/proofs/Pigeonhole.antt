@@ -71,7 +71,8 @@ distinct_append (fresh {a = a} {l = l} n d) e h =
 pub distinct_map : {A B : Type 0} {l : List A} (f : A → B) → Distinct l → ((a b : A) → Memᴰ a l → Memᴰ b l → f a ≡ f b → a ≡ b) → Distinct (map f l)
 distinct_map f empty h = empty
 distinct_map f (fresh {a = a} {l = l} n d) h =
-    let new : Memᴰ (f a) (map f l) → ⊥ = λ m. let (b, i, q) = mathlib.Core.List.Memᴰ.of_map f l m in n (mathlib.Core.List.Memᴰ.cast (h a b (mathlib.Core.List.Memᴰ.head refl) (mathlib.Core.List.Memᴰ.tail i) (sym q)) i) in
+    let new : Memᴰ (f a) (map f l) → ⊥ = λ m. let (b, i, q) = mathlib.Core.List.Memᴰ.of_map f l m in n
+    (mathlib.Core.List.Memᴰ.cast (h a b (mathlib.Core.List.Memᴰ.head refl) (mathlib.Core.List.Memᴰ.tail i) (sym q)) i) in
     fresh new (distinct_map f d (λ x y i j. h x y (mathlib.Core.List.Memᴰ.tail i) (mathlib.Core.List.Memᴰ.tail j)))
 
 pub distinct_upto : (n : ℕ) → Distinct (upto n)

@@ -1,4 +1,5 @@
-// What went wrong, in words, on the stream that is handed over, which in a program is standard error: why a table is refused; what the system says of a file and what to do, then what was done and how the file stands.
+// What went wrong, in words, on the stream that is handed over, which in a program is standard error: why a table is refused; what the system says of a file and what to do,
+// then what was done and how the file stands.
 #![tactic(auto)]
 
 use attributes::errors;

@@ -34,8 +34,11 @@ left rings version ok room e done none =
 
 pub returns-then-folded-ne0 : goal.returns-then-folded-ne0
 returns-then-folded-ne0 c =
-    let room : (fold_room (tabled c.args.starts.now c.args.targets.now c.args.counts.now) (tabled c.args.starts2.now c.args.targets2.now c.args.counts2.now)).met = omega (arith, c.requires.counted.well_formed) in
-    refusal_delivers c.if-folded-ne0.true (way_decides {after = (tabled c.fold_by-folded.new.starts2 c.fold_by-folded.new.targets2 c.fold_by-folded.new.counts2)} c.requires.counted room (folded c.args.rings c.args.version {after = (tabled c.fold_by-folded.new.starts2 c.fold_by-folded.new.targets2 c.fold_by-folded.new.counts2)} c.choosing-by.ensures c.fold_by-folded.ensures)) c.refused.ensures
+    let room : (fold_room (tabled c.args.starts.now c.args.targets.now c.args.counts.now) (tabled c.args.starts2.now c.args.targets2.now c.args.counts2.now)).met = omega
+    (arith, c.requires.counted.well_formed) in
+    refusal_delivers c.if-folded-ne0.true (way_decides {after = (tabled c.fold_by-folded.new.starts2 c.fold_by-folded.new.targets2 c.fold_by-folded.new.counts2)} c.requires.counted
+    room (folded c.args.rings c.args.version {after = (tabled c.fold_by-folded.new.starts2 c.fold_by-folded.new.targets2 c.fold_by-folded.new.counts2)} c.choosing-by.ensures
+    c.fold_by-folded.ensures)) c.refused.ensures
 
 pub overflow_add-n : goal.overflow_add-n
 overflow_add-n c =
@@ -43,24 +46,32 @@ overflow_add-n c =
 
 pub slice_bounds-write_version-end : goal.slice_bounds-write_version-end
 slice_bounds-write_version-end c =
-    let room : (fold_room (tabled c.args.starts.now c.args.targets.now c.args.counts.now) (tabled c.args.starts2.now c.args.targets2.now c.args.counts2.now)).met = omega (arith, c.requires.counted.well_formed) in
-    let new_table = left c.args.rings c.args.version {after = (tabled c.fold_by-folded.new.starts2 c.fold_by-folded.new.targets2 c.fold_by-folded.new.counts2)} c.requires.counted room c.choosing-by.ensures c.fold_by-folded.ensures c.if-folded-ne0.false in
+    let room : (fold_room (tabled c.args.starts.now c.args.targets.now c.args.counts.now) (tabled c.args.starts2.now c.args.targets2.now c.args.counts2.now)).met = omega
+    (arith, c.requires.counted.well_formed) in
+    let new_table = left c.args.rings c.args.version {after = (tabled c.fold_by-folded.new.starts2 c.fold_by-folded.new.targets2 c.fold_by-folded.new.counts2)} c.requires.counted
+    room c.choosing-by.ensures c.fold_by-folded.ensures c.if-folded-ne0.false in
     sym (length-take-le _ _ (omega (arith, new_table)))
 
 pub slice_bounds-write_version-end-2 : goal.slice_bounds-write_version-end-2
 slice_bounds-write_version-end-2 c =
-    let room : (fold_room (tabled c.args.starts.now c.args.targets.now c.args.counts.now) (tabled c.args.starts2.now c.args.targets2.now c.args.counts2.now)).met = omega (arith, c.requires.counted.well_formed) in
-    let new_table = left c.args.rings c.args.version {after = (tabled c.fold_by-folded.new.starts2 c.fold_by-folded.new.targets2 c.fold_by-folded.new.counts2)} c.requires.counted room c.choosing-by.ensures c.fold_by-folded.ensures c.if-folded-ne0.false in
+    let room : (fold_room (tabled c.args.starts.now c.args.targets.now c.args.counts.now) (tabled c.args.starts2.now c.args.targets2.now c.args.counts2.now)).met = omega
+    (arith, c.requires.counted.well_formed) in
+    let new_table = left c.args.rings c.args.version {after = (tabled c.fold_by-folded.new.starts2 c.fold_by-folded.new.targets2 c.fold_by-folded.new.counts2)} c.requires.counted
+    room c.choosing-by.ensures c.fold_by-folded.ensures c.if-folded-ne0.false in
     sym (length-take-le _ _ (omega (arith, new_table)))
 
 pub slice_bounds-write_version-end-3 : goal.slice_bounds-write_version-end-3
 slice_bounds-write_version-end-3 c =
-    let room : (fold_room (tabled c.args.starts.now c.args.targets.now c.args.counts.now) (tabled c.args.starts2.now c.args.targets2.now c.args.counts2.now)).met = omega (arith, c.requires.counted.well_formed) in
-    let new_table = left c.args.rings c.args.version {after = (tabled c.fold_by-folded.new.starts2 c.fold_by-folded.new.targets2 c.fold_by-folded.new.counts2)} c.requires.counted room c.choosing-by.ensures c.fold_by-folded.ensures c.if-folded-ne0.false in
+    let room : (fold_room (tabled c.args.starts.now c.args.targets.now c.args.counts.now) (tabled c.args.starts2.now c.args.targets2.now c.args.counts2.now)).met = omega
+    (arith, c.requires.counted.well_formed) in
+    let new_table = left c.args.rings c.args.version {after = (tabled c.fold_by-folded.new.starts2 c.fold_by-folded.new.targets2 c.fold_by-folded.new.counts2)} c.requires.counted
+    room c.choosing-by.ensures c.fold_by-folded.ensures c.if-folded-ne0.false in
     sym (length-take-le _ _ (omega (arith, new_table)))
 
 pub returns : goal.returns
 returns c =
-    let room : (fold_room (tabled c.args.starts.now c.args.targets.now c.args.counts.now) (tabled c.args.starts2.now c.args.targets2.now c.args.counts2.now)).met = omega (arith, c.requires.counted.well_formed) in
-    let new_table = left c.args.rings c.args.version {after = (tabled c.fold_by-folded.new.starts2 c.fold_by-folded.new.targets2 c.fold_by-folded.new.counts2)} c.requires.counted room c.choosing-by.ensures c.fold_by-folded.ensures c.if-folded-ne0.false in
+    let room : (fold_room (tabled c.args.starts.now c.args.targets.now c.args.counts.now) (tabled c.args.starts2.now c.args.targets2.now c.args.counts2.now)).met = omega
+    (arith, c.requires.counted.well_formed) in
+    let new_table = left c.args.rings c.args.version {after = (tabled c.fold_by-folded.new.starts2 c.fold_by-folded.new.targets2 c.fold_by-folded.new.counts2)} c.requires.counted
+    room c.choosing-by.ensures c.fold_by-folded.ensures c.if-folded-ne0.false in
     fold_delivers new_table refl c.put_fold.ensures (image_at_front (new_sound c.requires new_table) (omega (arith, largest_is)) c.write_version-extent.ensures)

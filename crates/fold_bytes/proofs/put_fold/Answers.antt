@@ -29,12 +29,34 @@ word-place-requires-3 c =
 
 pub next_number-place-requires-3 : goal.next_number-place-requires-3
 next_number-place-requires-3 c =
-    omega (arith, short c.args.folded (omega arith), short c.args.left (omega arith), short c.args.edges (omega arith), c.word-place.ensures, c.next_number-place.ensures, c.word-place-2.ensures, c.next_number-place-2.ensures, c.word-place-3.ensures)
+    omega (
+      arith,
+      short c.args.folded (omega arith),
+      short c.args.left (omega arith),
+      short c.args.edges (omega arith),
+      c.word-place.ensures,
+      c.next_number-place.ensures,
+      c.word-place-2.ensures,
+      c.next_number-place-2.ensures,
+      c.word-place-3.ensures,
+    )
 
 pub end_line-requires : goal.end_line-requires
 end_line-requires c =
-    omega (arith, short c.args.folded (omega arith), short c.args.left (omega arith), short c.args.edges (omega arith), c.word-place.ensures, c.next_number-place.ensures, c.word-place-2.ensures, c.next_number-place-2.ensures, c.word-place-3.ensures, c.next_number-place-3.ensures)
+    omega (
+      arith,
+      short c.args.folded (omega arith),
+      short c.args.left (omega arith),
+      short c.args.edges (omega arith),
+      c.word-place.ensures,
+      c.next_number-place.ensures,
+      c.word-place-2.ensures,
+      c.next_number-place-2.ensures,
+      c.word-place-3.ensures,
+      c.next_number-place-3.ensures,
+    )
 
 pub returns : goal.returns
 returns c =
-    put_folded c.args.folded c.args.left c.args.edges c.word-place.ensures c.next_number-place.ensures c.word-place-2.ensures c.next_number-place-2.ensures c.word-place-3.ensures c.next_number-place-3.ensures c.end_line.ensures
+    put_folded c.args.folded c.args.left c.args.edges c.word-place.ensures c.next_number-place.ensures c.word-place-2.ensures c.next_number-place-2.ensures c.word-place-3.ensures
+    c.next_number-place-3.ensures c.end_line.ensures

@@ -20,7 +20,11 @@ returns-then-word-n c = λ all.
     omega (arith, up, number_read 4 c.args.count c.args.numbers.now c.loop-k.k c.loop-k-test.true c.word.ensures)
 
 pub loop-k-preserved : goal.loop-k-preserved
-loop-k-preserved c = (omega (arith, c.loop-k-test.true), below_more _ _ c.loop-k.invariant.1 (omega (arith, c.if-word-n.false, number_read 4 c.args.count c.args.numbers.now c.loop-k.k c.loop-k-test.true c.word.ensures)))
+loop-k-preserved c = (
+  omega (arith, c.loop-k-test.true),
+  below_more _ _ c.loop-k.invariant.1
+      (omega (arith, c.if-word-n.false, number_read 4 c.args.count c.args.numbers.now c.loop-k.k c.loop-k-test.true c.word.ensures)),
+)
 
 pub returns : goal.returns
 returns c = λ j h. c.loop-k.invariant.1 j (omega (arith, h, numbers_length 4 c.args.count c.args.numbers.now))

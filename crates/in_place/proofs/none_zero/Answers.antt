@@ -20,7 +20,11 @@ returns-then-half-eq0 c = λ all.
     omega (arith, up, number_read 2 c.args.count c.args.lengths.now c.loop-k.k c.loop-k-test.true c.half.ensures)
 
 pub loop-k-preserved : goal.loop-k-preserved
-loop-k-preserved c = (omega (arith, c.loop-k-test.true), below_more _ _ c.loop-k.invariant.1 (omega (arith, number_read 2 c.args.count c.args.lengths.now c.loop-k.k c.loop-k-test.true c.half.ensures)))
+loop-k-preserved c = (
+  omega (arith, c.loop-k-test.true),
+  below_more _ _ c.loop-k.invariant.1
+      (omega (arith, number_read 2 c.args.count c.args.lengths.now c.loop-k.k c.loop-k-test.true c.half.ensures)),
+)
 
 pub returns : goal.returns
 returns c = λ j h. c.loop-k.invariant.1 j (omega (arith, h, numbers_length 2 c.args.count c.args.lengths.now))

@@ -57,12 +57,17 @@ pub overflow_sub-to : goal.overflow_sub-to
 overflow_sub-to c = omega (arith, lies c.args.n c.args.m c.loop-v.v c.args.starts.now c.requires.4 c.loop-v-test.true c.loop-v.invariant.1 c.word-to.ensures)
 
 pub rises-requires : goal.rises-requires
-rises-requires c = (omega (arith, lies c.args.n c.args.m c.loop-v.v c.args.starts.now c.requires.4 c.loop-v-test.true c.loop-v.invariant.1 c.word-to.ensures), simp (length-take, length-drop) (omega (arith, lies c.args.n c.args.m c.loop-v.v c.args.starts.now c.requires.4 c.loop-v-test.true c.loop-v.invariant.1 c.word-to.ensures)))
+rises-requires c = (
+  omega (arith, lies c.args.n c.args.m c.loop-v.v c.args.starts.now c.requires.4 c.loop-v-test.true c.loop-v.invariant.1 c.word-to.ensures),
+  simp
+      (length-take, length-drop) (omega (arith, lies c.args.n c.args.m c.loop-v.v c.args.starts.now c.requires.4 c.loop-v-test.true c.loop-v.invariant.1 c.word-to.ensures)),
+)
 
 pub returns-then-not-rises : goal.returns-then-not-rises
 returns-then-not-rises c = λ all.
     let v = c.loop-v.v in
-    says_no _ c.rises.result (rw (← is_row c.args.n c.args.m c.loop-v.v c.args.starts.now c.args.targets.now c.requires.4 c.loop-v-test.true c.loop-v.invariant.1 c.word-to.ensures) at c.rises.ensures) c.if-not-rises.true-raw
+    says_no _ c.rises.result (rw (← is_row c.args.n c.args.m c.loop-v.v c.args.starts.now c.args.targets.now c.requires.4 c.loop-v-test.true c.loop-v.invariant.1 c.word-to.ensures)
+    at c.rises.ensures) c.if-not-rises.true-raw
     (all v (omega (arith, numbers_length 4 (c.args.n + 1) c.args.starts.now)))
 
 pub loop-v-preserved : goal.loop-v-preserved
@@ -70,7 +75,8 @@ loop-v-preserved c = (
   search rules,
   next_start c.args.n c.loop-v.v c.args.starts.now c.loop-v-test.true c.word-to.ensures,
   below_more _ _ c.loop-v.invariant.2
-      (says_yes _ c.rises.result (rw (← is_row c.args.n c.args.m c.loop-v.v c.args.starts.now c.args.targets.now c.requires.4 c.loop-v-test.true c.loop-v.invariant.1 c.word-to.ensures) at c.rises.ensures) c.if-not-rises.false-raw),
+      (says_yes _ c.rises.result (rw (← is_row c.args.n c.args.m c.loop-v.v c.args.starts.now c.args.targets.now c.requires.4 c.loop-v-test.true c.loop-v.invariant.1
+      c.word-to.ensures) at c.rises.ensures) c.if-not-rises.false-raw),
 )
 
 pub returns : goal.returns

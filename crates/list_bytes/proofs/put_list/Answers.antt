@@ -18,7 +18,13 @@ pub put_pairs-requires : goal.put_pairs-requires
 put_pairs-requires c =
     record {
       pairs_len = c.requires.0;
-      found_in_bounds = omega (arith, list_long c.args.pairs.now c.args.found c.requires.0 c.requires.1 c.requires.2, c.word-place.ensures.ends, c.next_number-place.ensures.ends, c.end_line-place.ensures.ends);
+      found_in_bounds = omega (
+        arith,
+        list_long c.args.pairs.now c.args.found c.requires.0 c.requires.1 c.requires.2,
+        c.word-place.ensures.ends,
+        c.next_number-place.ensures.ends,
+        c.end_line-place.ensures.ends,
+      );
     }
 
 pub returns : goal.returns

@@ -46,7 +46,14 @@ next_number-place-requires c =
 
 pub end_line-place-requires : goal.end_line-place-requires
 end_line-place-requires c =
-    omega (arith, pair_room c.args.pairs.now c.args.found c.loop-k.k c.loop-k-test.true c.requires.found_in_bounds c.loop-k.invariant.1, c.number-place.ensures.ends, c.number-place.ensures.as_long, c.next_number-place.ensures.ends, c.next_number-place.ensures.as_long)
+    omega (
+      arith,
+      pair_room c.args.pairs.now c.args.found c.loop-k.k c.loop-k-test.true c.requires.found_in_bounds c.loop-k.invariant.1,
+      c.number-place.ensures.ends,
+      c.number-place.ensures.as_long,
+      c.next_number-place.ensures.ends,
+      c.next_number-place.ensures.as_long,
+    )
 
 pub overflow_add-k : goal.overflow_add-k
 overflow_add-k c = omega arith

@@ -15,15 +15,39 @@ next_number-place-requires c =
 
 pub put_length-place-requires : goal.put_length-place-requires
 put_length-place-requires c =
-    record { v_in_bounds = c.requires.v_in_bounds; v_in_bounds_2 = omega (arith, c.requires.row_in_bounds, vertex_line_long c.args.v c.args.count (length_at c.args.version c.args.lengths.now c.args.v) c.args.row.now, c.number-place.ensures, c.next_number-place.ensures) }
+    record {
+      v_in_bounds = c.requires.v_in_bounds;
+      v_in_bounds_2 = omega (
+        arith,
+        c.requires.row_in_bounds,
+        vertex_line_long c.args.v c.args.count (length_at c.args.version c.args.lengths.now c.args.v) c.args.row.now,
+        c.number-place.ensures,
+        c.next_number-place.ensures,
+      );
+    }
 
 pub put_successors-place-requires : goal.put_successors-place-requires
 put_successors-place-requires c =
-    omega (arith, c.requires.row_in_bounds, vertex_line_long c.args.v c.args.count (length_at c.args.version c.args.lengths.now c.args.v) c.args.row.now, c.number-place.ensures, c.next_number-place.ensures, c.put_length-place.ensures)
+    omega (
+      arith,
+      c.requires.row_in_bounds,
+      vertex_line_long c.args.v c.args.count (length_at c.args.version c.args.lengths.now c.args.v) c.args.row.now,
+      c.number-place.ensures,
+      c.next_number-place.ensures,
+      c.put_length-place.ensures,
+    )
 
 pub end_line-requires : goal.end_line-requires
 end_line-requires c =
-    omega (arith, c.requires.row_in_bounds, vertex_line_long c.args.v c.args.count (length_at c.args.version c.args.lengths.now c.args.v) c.args.row.now, c.number-place.ensures, c.next_number-place.ensures, c.put_length-place.ensures, c.put_successors-place.ensures)
+    omega (
+      arith,
+      c.requires.row_in_bounds,
+      vertex_line_long c.args.v c.args.count (length_at c.args.version c.args.lengths.now c.args.v) c.args.row.now,
+      c.number-place.ensures,
+      c.next_number-place.ensures,
+      c.put_length-place.ensures,
+      c.put_successors-place.ensures,
+    )
 
 pub returns : goal.returns
 returns c =

@@ -34,12 +34,21 @@ put_vertex-place-requires c =
     let inside : at.v < n = omega (arith, c.requires.sound_contents.counted.count_each, c.loop-v-test.true) in
     record {
       v_in_bounds = length_inside c.requires.sound_contents at.v inside;
-      row_in_bounds = rw c.row.ensures (omega (arith, c.requires.starts_in_bounds, at.invariant.1, each_within (vertex_line c.args.version (handed c.args.starts.now c.args.targets.now c.args.counts.now c.args.lengths.now)) at.v n inside));
+      row_in_bounds = rw c.row.ensures (omega (
+        arith,
+        c.requires.starts_in_bounds,
+        at.invariant.1,
+        each_within (vertex_line c.args.version (handed c.args.starts.now
+            c.args.targets.now c.args.counts.now c.args.lengths.now)) at.v n inside,
+      ));
     }
 
 pub loop-v-preserved : goal.loop-v-preserved
-loop-v-preserved c =
-    (omega arith, put_next_vertex c.args.version (handed c.args.starts.now c.args.targets.now c.args.counts.now c.args.lengths.now) c.loop-v.v c.loop-v.invariant.1 (rw c.row.ensures at c.put_vertex-place.ensures))
+loop-v-preserved c = (
+  omega arith,
+  put_next_vertex c.args.version (handed c.args.starts.now c.args.targets.now c.args.counts.now c.args.lengths.now) c.loop-v.v c.loop-v.invariant.1
+      (rw c.row.ensures at c.put_vertex-place.ensures),
+)
 
 pub returns : goal.returns
 returns c =

@@ -56,7 +56,9 @@ pub slice_bounds-load-end-7 : goal.slice_bounds-load-end-7
 slice_bounds-load-end-7 c = lengths_fit (lent c.args.starts.now c.args.targets.now c.args.counts.now c.args.lengths.now) c.look-sizes.ensures c.if-sizes-ne0.false c.requires c.lengths-k.ensures
 
 pub slice_bounds-load-end-8 : goal.slice_bounds-load-end-8
-slice_bounds-load-end-8 c = sym (length-take-le c.lengths-k.result c.args.lengths.now (lengths_fit (lent c.args.starts.now c.args.targets.now c.args.counts.now c.args.lengths.now) c.look-sizes.ensures c.if-sizes-ne0.false c.requires c.lengths-k.ensures))
+slice_bounds-load-end-8 c = sym (length-take-le c.lengths-k.result c.args.lengths.now
+    (lengths_fit (lent c.args.starts.now c.args.targets.now c.args.counts.now c.args.lengths.now) c.look-sizes.ensures c.if-sizes-ne0.false c.requires c.lengths-k.ensures))
 
 pub returns : goal.returns
-returns c = loaded_taken {lent = (lent c.args.starts.now c.args.targets.now c.args.counts.now c.args.lengths.now)} c.look-sizes.ensures c.if-sizes-ne0.false c.requires c.lengths-k.ensures c.load.ensures
+returns c = loaded_taken {lent = (lent c.args.starts.now c.args.targets.now c.args.counts.now c.args.lengths.now)} c.look-sizes.ensures c.if-sizes-ne0.false c.requires
+    c.lengths-k.ensures c.load.ensures

@@ -6,7 +6,6 @@ use native.Mathlib.Omega.{arith}
 use lib.ListN.{length, get_or, length-set}
 use Rattle.table.specs.Table.{vertices, row}
 use Rattle.table.proofs.RowLaws.{row_lies, row_below}
-use Rattle.visiting.specs.Visits.{NextOpen}
 use Rattle.visiting.proofs.CountLaws.{enter_unvisited, leave_unvisited}
 use Rattle.visiting.proofs.DepthLaws.{left_alone, unmarked, walk_begins, coloured, row_most, goes_on, open_vertex, follows, closes, goes_down, comes_back, visit_ends}
 use Rattle.visiting.proofs.visit.Goals as goal
@@ -48,7 +47,7 @@ next_open-place-requires c = let at = c.loop-place.invariant.3 in
     })
 
 pub bounds-colours-next : goal.bounds-colours-next
-bounds-colours-next c = let found : NextOpen (row c.args.starts.now c.args.targets.now c.loop-place.v) c.loop-place.colours c.loop-place.place c.passed_over.result c.next_open-place.result = rw c.row-row.ensures at c.next_open-place.ensures in
+bounds-colours-next c = let found = rw c.row-row.ensures at c.next_open-place.ensures in
     let moved = goes_on c.loop-place.invariant.3 c.passed_over.ensures found in
     let inside : c.next_open-place.result < length (row c.args.starts.now c.args.targets.now c.loop-place.v) = rw c.row-row.ensures at c.if-place-row.true in
     let vertex : get_or (row c.args.starts.now c.args.targets.now c.loop-place.v) c.next_open-place.result 0 < vertices c.args.starts.now = open_vertex moved inside in
@@ -64,7 +63,7 @@ pub shape_of-places-then-colours-next-eq1 : goal.shape_of-places-then-colours-ne
 shape_of-places-then-colours-next-eq1 c = c.loop-place.invariant.2
 
 pub returns-then-colours-next-eq1 : goal.returns-then-colours-next-eq1
-returns-then-colours-next-eq1 c = let found : NextOpen (row c.args.starts.now c.args.targets.now c.loop-place.v) c.loop-place.colours c.loop-place.place c.passed_over.result c.next_open-place.result = rw c.row-row.ensures at c.next_open-place.ensures in
+returns-then-colours-next-eq1 c = let found = rw c.row-row.ensures at c.next_open-place.ensures in
     let moved = goes_on c.loop-place.invariant.3 c.passed_over.ensures found in
     let inside : c.next_open-place.result < length (row c.args.starts.now c.args.targets.now c.loop-place.v) = rw c.row-row.ensures at c.if-place-row.true in
     let vertex : get_or (row c.args.starts.now c.args.targets.now c.loop-place.v) c.next_open-place.result 0 < vertices c.args.starts.now = open_vertex moved inside in
@@ -72,14 +71,14 @@ returns-then-colours-next-eq1 c = let found : NextOpen (row c.args.starts.now c.
     rw (← unmarked c.args.colours.now c.args.root c.if-colours-root-ne0.false) (closes moved edge vertex (rw c.row-row.ensures at c.if-colours-next-eq1.true))
 
 pub bounds-colours-next-then-place-row : goal.bounds-colours-next-then-place-row
-bounds-colours-next-then-place-row c = let found : NextOpen (row c.args.starts.now c.args.targets.now c.loop-place.v) c.loop-place.colours c.loop-place.place c.passed_over.result c.next_open-place.result = rw c.row-row.ensures at c.next_open-place.ensures in
+bounds-colours-next-then-place-row c = let found = rw c.row-row.ensures at c.next_open-place.ensures in
     let moved = goes_on c.loop-place.invariant.3 c.passed_over.ensures found in
     let inside : c.next_open-place.result < length (row c.args.starts.now c.args.targets.now c.loop-place.v) = rw c.row-row.ensures at c.if-place-row.true in
     let vertex : get_or (row c.args.starts.now c.args.targets.now c.loop-place.v) c.next_open-place.result 0 < vertices c.args.starts.now = open_vertex moved inside in
     rw c.row-row.ensures (omega (arith, vertex, moved.colours_room))
 
 pub overflow_cast-places : goal.overflow_cast-places
-overflow_cast-places c = let found : NextOpen (row c.args.starts.now c.args.targets.now c.loop-place.v) c.loop-place.colours c.loop-place.place c.passed_over.result c.next_open-place.result = rw c.row-row.ensures at c.next_open-place.ensures in
+overflow_cast-places c = let found = rw c.row-row.ensures at c.next_open-place.ensures in
     let moved = goes_on c.loop-place.invariant.3 c.passed_over.ensures found in
     let inside : c.next_open-place.result < length (row c.args.starts.now c.args.targets.now c.loop-place.v) = rw c.row-row.ensures at c.if-place-row.true in
     omega (arith, row_most moved, inside)
@@ -97,52 +96,60 @@ overflow_add-depth c = let at = c.loop-place.invariant.3 in
     omega (arith, at.fits, at.well_formed.most_vertices)
 
 pub overflow_cast-path-then-place-row : goal.overflow_cast-path-then-place-row
-overflow_cast-path-then-place-row c = let found : NextOpen (row c.args.starts.now c.args.targets.now c.loop-place.v) c.loop-place.colours c.loop-place.place c.passed_over.result c.next_open-place.result = rw c.row-row.ensures at c.next_open-place.ensures in
+overflow_cast-path-then-place-row c = let found = rw c.row-row.ensures at c.next_open-place.ensures in
     let moved = goes_on c.loop-place.invariant.3 c.passed_over.ensures found in
     let inside : c.next_open-place.result < length (row c.args.starts.now c.args.targets.now c.loop-place.v) = rw c.row-row.ensures at c.if-place-row.true in
     let vertex : get_or (row c.args.starts.now c.args.targets.now c.loop-place.v) c.next_open-place.result 0 < vertices c.args.starts.now = open_vertex moved inside in
     rw c.row-row.ensures (omega (arith, vertex, moved.well_formed.most_vertices))
 
 pub offset_bounds-path-depth : goal.offset_bounds-path-depth
-offset_bounds-path-depth c = let found : NextOpen (row c.args.starts.now c.args.targets.now c.loop-place.v) c.loop-place.colours c.loop-place.place c.passed_over.result c.next_open-place.result = rw c.row-row.ensures at c.next_open-place.ensures in
+offset_bounds-path-depth c = let found = rw c.row-row.ensures at c.next_open-place.ensures in
     let moved = goes_on c.loop-place.invariant.3 c.passed_over.ensures found in
     let inside : c.next_open-place.result < length (row c.args.starts.now c.args.targets.now c.loop-place.v) = rw c.row-row.ensures at c.if-place-row.true in
     let vertex : get_or (row c.args.starts.now c.args.targets.now c.loop-place.v) c.next_open-place.result 0 < vertices c.args.starts.now = open_vertex moved inside in
     let edge = follows moved c.passed_over.ensures found inside in
-    let other : get_or c.loop-place.colours (get_or (row c.args.starts.now c.args.targets.now c.loop-place.v) c.next_open-place.result 0) 0 ≡ 1 → ⊥ = λ q. c.if-colours-next-eq1.false (rw c.row-row.ensures q) in
+    let other : get_or c.loop-place.colours (get_or (row c.args.starts.now c.args.targets.now c.loop-place.v) c.next_open-place.result 0) 0 ≡ 1 → ⊥ = λ q.
+    c.if-colours-next-eq1.false (rw c.row-row.ensures q) in
     let new : get_or c.loop-place.colours (get_or (row c.args.starts.now c.args.targets.now c.loop-place.v) c.next_open-place.result 0) 0 ≡ 0 = omega (arith, found.not_done inside, other) in
     let down = goes_down moved edge vertex new in
     omega (arith, down.fits, down.well_formed.most_vertices)
 
 pub bounds-path-depth : goal.bounds-path-depth
-bounds-path-depth c = let found : NextOpen (row c.args.starts.now c.args.targets.now c.loop-place.v) c.loop-place.colours c.loop-place.place c.passed_over.result c.next_open-place.result = rw c.row-row.ensures at c.next_open-place.ensures in
+bounds-path-depth c = let found = rw c.row-row.ensures at c.next_open-place.ensures in
     let moved = goes_on c.loop-place.invariant.3 c.passed_over.ensures found in
     let inside : c.next_open-place.result < length (row c.args.starts.now c.args.targets.now c.loop-place.v) = rw c.row-row.ensures at c.if-place-row.true in
     let vertex : get_or (row c.args.starts.now c.args.targets.now c.loop-place.v) c.next_open-place.result 0 < vertices c.args.starts.now = open_vertex moved inside in
     let edge = follows moved c.passed_over.ensures found inside in
-    let other : get_or c.loop-place.colours (get_or (row c.args.starts.now c.args.targets.now c.loop-place.v) c.next_open-place.result 0) 0 ≡ 1 → ⊥ = λ q. c.if-colours-next-eq1.false (rw c.row-row.ensures q) in
+    let other : get_or c.loop-place.colours (get_or (row c.args.starts.now c.args.targets.now c.loop-place.v) c.next_open-place.result 0) 0 ≡ 1 → ⊥ = λ q.
+    c.if-colours-next-eq1.false (rw c.row-row.ensures q) in
     let new : get_or c.loop-place.colours (get_or (row c.args.starts.now c.args.targets.now c.loop-place.v) c.next_open-place.result 0) 0 ≡ 0 = omega (arith, found.not_done inside, other) in
     let down = goes_down moved edge vertex new in
     omega (arith, down.fits, moved.path_room)
 
 pub loop-place-smaller-then-place-row : goal.loop-place-smaller-then-place-row
-loop-place-smaller-then-place-row c = let found : NextOpen (row c.args.starts.now c.args.targets.now c.loop-place.v) c.loop-place.colours c.loop-place.place c.passed_over.result c.next_open-place.result = rw c.row-row.ensures at c.next_open-place.ensures in
+loop-place-smaller-then-place-row c = let found = rw c.row-row.ensures at c.next_open-place.ensures in
     let moved = goes_on c.loop-place.invariant.3 c.passed_over.ensures found in
     let inside : c.next_open-place.result < length (row c.args.starts.now c.args.targets.now c.loop-place.v) = rw c.row-row.ensures at c.if-place-row.true in
     let vertex : get_or (row c.args.starts.now c.args.targets.now c.loop-place.v) c.next_open-place.result 0 < vertices c.args.starts.now = open_vertex moved inside in
     let edge = follows moved c.passed_over.ensures found inside in
-    let other : get_or c.loop-place.colours (get_or (row c.args.starts.now c.args.targets.now c.loop-place.v) c.next_open-place.result 0) 0 ≡ 1 → ⊥ = λ q. c.if-colours-next-eq1.false (rw c.row-row.ensures q) in
+    let other : get_or c.loop-place.colours (get_or (row c.args.starts.now c.args.targets.now c.loop-place.v) c.next_open-place.result 0) 0 ≡ 1 → ⊥ = λ q.
+    c.if-colours-next-eq1.false (rw c.row-row.ensures q) in
     let new : get_or c.loop-place.colours (get_or (row c.args.starts.now c.args.targets.now c.loop-place.v) c.next_open-place.result 0) 0 ≡ 0 = omega (arith, found.not_done inside, other) in
     rw c.row-row.ensures
-    (omega (arith, enter_unvisited (vertices c.args.starts.now) c.loop-place.colours (get_or (row c.args.starts.now c.args.targets.now c.loop-place.v) c.next_open-place.result 0) vertex (omega (arith, vertex, moved.colours_room)) new))
+    (omega (
+      arith,
+      enter_unvisited (vertices c.args.starts.now) c.loop-place.colours (get_or (row c.args.starts.now c.args.targets.now c.loop-place.v) c.next_open-place.result 0)
+          vertex (omega (arith, vertex, moved.colours_room)) new,
+    ))
 
 pub loop-place-preserved-then-place-row : goal.loop-place-preserved-then-place-row
-loop-place-preserved-then-place-row c = let found : NextOpen (row c.args.starts.now c.args.targets.now c.loop-place.v) c.loop-place.colours c.loop-place.place c.passed_over.result c.next_open-place.result = rw c.row-row.ensures at c.next_open-place.ensures in
+loop-place-preserved-then-place-row c = let found = rw c.row-row.ensures at c.next_open-place.ensures in
     let moved = goes_on c.loop-place.invariant.3 c.passed_over.ensures found in
     let inside : c.next_open-place.result < length (row c.args.starts.now c.args.targets.now c.loop-place.v) = rw c.row-row.ensures at c.if-place-row.true in
     let vertex : get_or (row c.args.starts.now c.args.targets.now c.loop-place.v) c.next_open-place.result 0 < vertices c.args.starts.now = open_vertex moved inside in
     let edge = follows moved c.passed_over.ensures found inside in
-    let other : get_or c.loop-place.colours (get_or (row c.args.starts.now c.args.targets.now c.loop-place.v) c.next_open-place.result 0) 0 ≡ 1 → ⊥ = λ q. c.if-colours-next-eq1.false (rw c.row-row.ensures q) in
+    let other : get_or c.loop-place.colours (get_or (row c.args.starts.now c.args.targets.now c.loop-place.v) c.next_open-place.result 0) 0 ≡ 1 → ⊥ = λ q.
+    c.if-colours-next-eq1.false (rw c.row-row.ensures q) in
     let new : get_or c.loop-place.colours (get_or (row c.args.starts.now c.args.targets.now c.loop-place.v) c.next_open-place.result 0) 0 ≡ 0 = omega (arith, found.not_done inside, other) in
     let at = c.loop-place in
     rw c.row-row.ensures (
@@ -166,7 +173,7 @@ pub shape_of-places-then-depth-eq0 : goal.shape_of-places-then-depth-eq0
 shape_of-places-then-depth-eq0 c = c.loop-place.invariant.2
 
 pub returns-then-depth-eq0 : goal.returns-then-depth-eq0
-returns-then-depth-eq0 c = let found : NextOpen (row c.args.starts.now c.args.targets.now c.loop-place.v) c.loop-place.colours c.loop-place.place c.passed_over.result c.next_open-place.result = rw c.row-row.ensures at c.next_open-place.ensures in
+returns-then-depth-eq0 c = let found = rw c.row-row.ensures at c.next_open-place.ensures in
     let moved = goes_on c.loop-place.invariant.3 c.passed_over.ensures found in
     let passed : length (row c.args.starts.now c.args.targets.now c.loop-place.v) ≤ c.next_open-place.result = rw c.row-row.ensures at c.if-place-row.false in
     rw (← unmarked c.args.colours.now c.args.root c.if-colours-root-ne0.false) (visit_ends moved passed (omega (arith, c.if-depth-eq0.true)))
@@ -180,7 +187,7 @@ bounds-path-depth-else-place-row c = let at = c.loop-place.invariant.3 in
     omega (arith, at.fits, at.path_room)
 
 pub overflow_cast-v : goal.overflow_cast-v
-overflow_cast-v c = let found : NextOpen (row c.args.starts.now c.args.targets.now c.loop-place.v) c.loop-place.colours c.loop-place.place c.passed_over.result c.next_open-place.result = rw c.row-row.ensures at c.next_open-place.ensures in
+overflow_cast-v c = let found = rw c.row-row.ensures at c.next_open-place.ensures in
     let moved = goes_on c.loop-place.invariant.3 c.passed_over.ensures found in
     let passed : length (row c.args.starts.now c.args.targets.now c.loop-place.v) ≤ c.next_open-place.result = rw c.row-row.ensures at c.if-place-row.false in
     let back = comes_back moved passed (omega (arith, c.if-depth-eq0.false)) in
@@ -195,7 +202,7 @@ bounds-places-depth-else-place-row c = let at = c.loop-place.invariant.3 in
     omega (arith, at.fits, at.places_room)
 
 pub overflow_cast-place : goal.overflow_cast-place
-overflow_cast-place c = let found : NextOpen (row c.args.starts.now c.args.targets.now c.loop-place.v) c.loop-place.colours c.loop-place.place c.passed_over.result c.next_open-place.result = rw c.row-row.ensures at c.next_open-place.ensures in
+overflow_cast-place c = let found = rw c.row-row.ensures at c.next_open-place.ensures in
     let moved = goes_on c.loop-place.invariant.3 c.passed_over.ensures found in
     let passed : length (row c.args.starts.now c.args.targets.now c.loop-place.v) ≤ c.next_open-place.result = rw c.row-row.ensures at c.if-place-row.false in
     let back = comes_back moved passed (omega (arith, c.if-depth-eq0.false)) in
@@ -206,7 +213,7 @@ loop-place-smaller c = let at = c.loop-place in
     omega (arith, c.if-depth-eq0.false, leave_unvisited (vertices c.args.starts.now) at.colours at.v (coloured at.invariant.3))
 
 pub loop-place-preserved : goal.loop-place-preserved
-loop-place-preserved c = let found : NextOpen (row c.args.starts.now c.args.targets.now c.loop-place.v) c.loop-place.colours c.loop-place.place c.passed_over.result c.next_open-place.result = rw c.row-row.ensures at c.next_open-place.ensures in
+loop-place-preserved c = let found = rw c.row-row.ensures at c.next_open-place.ensures in
     let moved = goes_on c.loop-place.invariant.3 c.passed_over.ensures found in
     let passed : length (row c.args.starts.now c.args.targets.now c.loop-place.v) ≤ c.next_open-place.result = rw c.row-row.ensures at c.if-place-row.false in
     let at = c.loop-place in

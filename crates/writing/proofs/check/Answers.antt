@@ -48,7 +48,8 @@ after_sum version contents fits met counted long many said e v = after_each vers
 
 pub returns-then-number-ne0 : goal.returns-then-number-ne0
 returns-then-number-ne0 c =
-    stops (table_demands (handed c.args.starts.now c.args.targets.now c.args.counts.now c.args.lengths.now).table.rows) (rest c.args.version (handed c.args.starts.now c.args.targets.now c.args.counts.now c.args.lengths.now)) c.check-number.result c.if-number-ne0.true c.check-number.ensures
+    stops (table_demands (handed c.args.starts.now c.args.targets.now c.args.counts.now c.args.lengths.now).table.rows)
+    (rest c.args.version (handed c.args.starts.now c.args.targets.now c.args.counts.now c.args.lengths.now)) c.check-number.result c.if-number-ne0.true c.check-number.ensures
 
 pub overflow_sub-n : goal.overflow_sub-n
 overflow_sub-n c =
@@ -56,20 +57,29 @@ overflow_sub-n c =
 
 pub returns-then-counts-n : goal.returns-then-counts-n
 returns-then-counts-n c =
-    after_table c.args.version (handed c.args.starts.now c.args.targets.now c.args.counts.now c.args.lengths.now) (rows_met (handed c.args.starts.now c.args.targets.now c.args.counts.now c.args.lengths.now) c.if-number-ne0.false c.check-number.ensures) (inl ((λ met. c.if-counts-n.true met.0), refl))
+    after_table c.args.version (handed c.args.starts.now c.args.targets.now c.args.counts.now c.args.lengths.now)
+    (rows_met (handed c.args.starts.now c.args.targets.now c.args.counts.now c.args.lengths.now) c.if-number-ne0.false c.check-number.ensures) (inl ((λ met. c.if-counts-n.true met.0), refl))
 
 pub returns-then-lengths : goal.returns-then-lengths
 returns-then-lengths c =
-    after_table c.args.version (handed c.args.starts.now c.args.targets.now c.args.counts.now c.args.lengths.now) (rows_met (handed c.args.starts.now c.args.targets.now c.args.counts.now c.args.lengths.now) c.if-number-ne0.false c.check-number.ensures) (inl ((λ met. c.if-lengths.true (met.1 ∙ sym c.lengths.ensures)), refl))
+    after_table c.args.version (handed c.args.starts.now c.args.targets.now c.args.counts.now c.args.lengths.now)
+    (rows_met (handed c.args.starts.now c.args.targets.now c.args.counts.now c.args.lengths.now) c.if-number-ne0.false c.check-number.ensures)
+    (inl ((λ met. c.if-lengths.true (met.1 ∙ sym c.lengths.ensures)), refl))
 
 pub returns-then-not-sum_fits : goal.returns-then-not-sum_fits
 returns-then-not-sum_fits c =
-    after_each c.args.version (handed c.args.starts.now c.args.targets.now c.args.counts.now c.args.lengths.now) (rows_met (handed c.args.starts.now c.args.targets.now c.args.counts.now c.args.lengths.now) c.if-number-ne0.false c.check-number.ensures) c.if-counts-n.false c.if-lengths.false c.lengths.ensures (inl (says_no _ c.sum_fits.result c.sum_fits.ensures c.if-not-sum_fits.true-raw, refl))
+    after_each c.args.version (handed c.args.starts.now c.args.targets.now c.args.counts.now c.args.lengths.now)
+    (rows_met (handed c.args.starts.now c.args.targets.now c.args.counts.now c.args.lengths.now) c.if-number-ne0.false c.check-number.ensures) c.if-counts-n.false
+    c.if-lengths.false c.lengths.ensures (inl (says_no _ c.sum_fits.result c.sum_fits.ensures c.if-not-sum_fits.true-raw, refl))
 
 pub returns-then-not-none_zero : goal.returns-then-not-none_zero
 returns-then-not-none_zero c =
-    after_sum c.args.version (handed c.args.starts.now c.args.targets.now c.args.counts.now c.args.lengths.now) c.sum_fits.result (rows_met (handed c.args.starts.now c.args.targets.now c.args.counts.now c.args.lengths.now) c.if-number-ne0.false c.check-number.ensures) c.if-counts-n.false c.if-lengths.false c.lengths.ensures c.sum_fits.ensures c.if-not-sum_fits.false-raw (inl (says_no _ c.none_zero.result c.none_zero.ensures c.if-not-none_zero.true-raw, refl))
+    after_sum c.args.version (handed c.args.starts.now c.args.targets.now c.args.counts.now c.args.lengths.now) c.sum_fits.result
+    (rows_met (handed c.args.starts.now c.args.targets.now c.args.counts.now c.args.lengths.now) c.if-number-ne0.false c.check-number.ensures) c.if-counts-n.false
+    c.if-lengths.false c.lengths.ensures c.sum_fits.ensures c.if-not-sum_fits.false-raw (inl (says_no _ c.none_zero.result c.none_zero.ensures c.if-not-none_zero.true-raw, refl))
 
 pub returns : goal.returns
 returns c =
-    after_sum c.args.version (handed c.args.starts.now c.args.targets.now c.args.counts.now c.args.lengths.now) c.sum_fits.result (rows_met (handed c.args.starts.now c.args.targets.now c.args.counts.now c.args.lengths.now) c.if-number-ne0.false c.check-number.ensures) c.if-counts-n.false c.if-lengths.false c.lengths.ensures c.sum_fits.ensures c.if-not-sum_fits.false-raw (inr (says_yes _ c.none_zero.result c.none_zero.ensures c.if-not-none_zero.false-raw, refl))
+    after_sum c.args.version (handed c.args.starts.now c.args.targets.now c.args.counts.now c.args.lengths.now) c.sum_fits.result
+    (rows_met (handed c.args.starts.now c.args.targets.now c.args.counts.now c.args.lengths.now) c.if-number-ne0.false c.check-number.ensures) c.if-counts-n.false
+    c.if-lengths.false c.lengths.ensures c.sum_fits.ensures c.if-not-sum_fits.false-raw (inr (says_yes _ c.none_zero.result c.none_zero.ensures c.if-not-none_zero.false-raw, refl))

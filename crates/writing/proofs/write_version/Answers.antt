@@ -43,7 +43,8 @@ overflow_cast-m c =
 
 pub returns-then-image-length : goal.returns-then-image-length
 returns-then-image-length c =
-    write_refused_by_room (accepted c.args.version (handed c.args.starts.now c.args.targets.now c.args.counts.now c.args.lengths.now) c.if-number-ne0.false c.check-number.ensures) (λ room. omega (arith, room, c.length-length.ensures)) c.refused-then-image-length.ensures
+    write_refused_by_room (accepted c.args.version (handed c.args.starts.now c.args.targets.now c.args.counts.now c.args.lengths.now) c.if-number-ne0.false c.check-number.ensures)
+    (λ room. omega (arith, room, c.length-length.ensures)) c.refused-then-image-length.ensures
 
 pub overflow_cast-header : goal.overflow_cast-header
 overflow_cast-header c =
@@ -59,11 +60,23 @@ write_longs-requires c =
 
 pub write_halves-requires : goal.write_halves-requires
 write_halves-requires c =
-    omega (arith, sound c.args.version (handed c.args.starts.now c.args.targets.now c.args.counts.now c.args.lengths.now) c.if-number-ne0.false c.check-number.ensures, met_lengths c.args.version (handed c.args.starts.now c.args.targets.now c.args.counts.now c.args.lengths.now) (met c.args.version (handed c.args.starts.now c.args.targets.now c.args.counts.now c.args.lengths.now) c.if-number-ne0.false c.check-number.ensures), c.length-length.ensures)
+    omega (
+      arith,
+      sound c.args.version (handed c.args.starts.now c.args.targets.now c.args.counts.now c.args.lengths.now) c.if-number-ne0.false c.check-number.ensures,
+      met_lengths
+          c.args.version (handed c.args.starts.now c.args.targets.now c.args.counts.now c.args.lengths.now)
+          (met c.args.version (handed c.args.starts.now c.args.targets.now c.args.counts.now c.args.lengths.now) c.if-number-ne0.false c.check-number.ensures),
+      c.length-length.ensures,
+    )
 
 pub returns : goal.returns
 returns c =
-    let fits : (image_room c.args.version (handed c.args.starts.now c.args.targets.now c.args.counts.now c.args.lengths.now).table.rows c.args.image.now).met = omega (arith, c.length-length.ensures) in
-    write_taken refl (accepted c.args.version (handed c.args.starts.now c.args.targets.now c.args.counts.now c.args.lengths.now) c.if-number-ne0.false c.check-number.ensures) fits c.length-length.ensures
-    (image_whole c.args.version (handed c.args.starts.now c.args.targets.now c.args.counts.now c.args.lengths.now) c.args.image.now (sound c.args.version (handed c.args.starts.now c.args.targets.now c.args.counts.now c.args.lengths.now) c.if-number-ne0.false c.check-number.ensures) (met_lengths c.args.version (handed c.args.starts.now c.args.targets.now c.args.counts.now c.args.lengths.now) (met c.args.version (handed c.args.starts.now c.args.targets.now c.args.counts.now c.args.lengths.now) c.if-number-ne0.false c.check-number.ensures)) fits c.put.ensures
+    let fits : (image_room c.args.version (handed c.args.starts.now c.args.targets.now c.args.counts.now c.args.lengths.now).table.rows c.args.image.now).met = omega
+    (arith, c.length-length.ensures) in
+    write_taken refl (accepted c.args.version (handed c.args.starts.now c.args.targets.now c.args.counts.now c.args.lengths.now) c.if-number-ne0.false c.check-number.ensures) fits
+    c.length-length.ensures
+    (image_whole c.args.version (handed c.args.starts.now c.args.targets.now c.args.counts.now c.args.lengths.now) c.args.image.now
+    (sound c.args.version (handed c.args.starts.now c.args.targets.now c.args.counts.now c.args.lengths.now) c.if-number-ne0.false c.check-number.ensures)
+    (met_lengths c.args.version (handed c.args.starts.now c.args.targets.now c.args.counts.now c.args.lengths.now)
+    (met c.args.version (handed c.args.starts.now c.args.targets.now c.args.counts.now c.args.lengths.now) c.if-number-ne0.false c.check-number.ensures)) fits c.put.ensures
     c.write_words.ensures c.write_words-2.ensures c.write_longs.ensures c.write_halves.ensures)

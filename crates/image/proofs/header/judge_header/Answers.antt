@@ -57,7 +57,8 @@ word-n-requires c =
 pub returns-then-n-gt-VERTEX_LIMIT : goal.returns-then-n-gt-VERTEX_LIMIT
 returns-then-n-gt-VERTEX_LIMIT c =
     header_refused 1 (λ e. omega arith) c.refused-then-n-gt-VERTEX_LIMIT.ensures
-    (after_mark c.args.image.now c.is_marked.result c.is_marked.ensures c.if-not-is_marked.false-raw (after_version c.args.image.now c.is_known.result c.version-version.ensures c.is_known.ensures c.if-not-is_known.false-raw (inl ((λ met. omega (arith, c.word-n.ensures)), refl))))
+    (after_mark c.args.image.now c.is_marked.result c.is_marked.ensures c.if-not-is_marked.false-raw
+    (after_version c.args.image.now c.is_known.result c.version-version.ensures c.is_known.ensures c.if-not-is_known.false-raw (inl ((λ met. omega (arith, c.word-n.ensures)), refl))))
 
 pub word-m-requires : goal.word-m-requires
 word-m-requires c =
@@ -66,17 +67,27 @@ word-m-requires c =
 pub returns-then-m-gt-EDGE_LIMIT : goal.returns-then-m-gt-EDGE_LIMIT
 returns-then-m-gt-EDGE_LIMIT c =
     header_refused 2 (λ e. omega arith) c.refused-then-m-gt-EDGE_LIMIT.ensures
-    (after_mark c.args.image.now c.is_marked.result c.is_marked.ensures c.if-not-is_marked.false-raw (after_version c.args.image.now c.is_known.result c.version-version.ensures c.is_known.ensures c.if-not-is_known.false-raw (after_vertices c.args.image.now c.word-n.ensures (omega arith) (inl ((λ met. omega (arith, c.word-m.ensures)), refl)))))
+    (after_mark c.args.image.now c.is_marked.result c.is_marked.ensures c.if-not-is_marked.false-raw
+    (after_version c.args.image.now c.is_known.result c.version-version.ensures c.is_known.ensures c.if-not-is_known.false-raw
+    (after_vertices c.args.image.now c.word-n.ensures (omega arith) (inl ((λ met. omega (arith, c.word-m.ensures)), refl)))))
 
 pub returns-then-image-length : goal.returns-then-image-length
 returns-then-image-length c =
     header_refused 12 (λ e. omega arith) c.refused-then-image-length.ensures
-    (after_mark c.args.image.now c.is_marked.result c.is_marked.ensures c.if-not-is_marked.false-raw (after_version c.args.image.now c.is_known.result c.version-version.ensures c.is_known.ensures c.if-not-is_known.false-raw (after_vertices c.args.image.now c.word-n.ensures (omega arith) (after_edges c.args.image.now c.word-m.ensures (omega arith) (inl ((λ met. c.if-image-length.true (met ∙ sym (length_is c.args.image.now c.version-version.ensures c.word-n.ensures c.word-m.ensures c.length.ensures))), refl))))))
+    (after_mark c.args.image.now c.is_marked.result c.is_marked.ensures c.if-not-is_marked.false-raw
+    (after_version c.args.image.now c.is_known.result c.version-version.ensures c.is_known.ensures c.if-not-is_known.false-raw
+    (after_vertices c.args.image.now c.word-n.ensures (omega arith)
+    (after_edges c.args.image.now c.word-m.ensures (omega arith) (inl
+    ((λ met. c.if-image-length.true (met ∙ sym (length_is c.args.image.now c.version-version.ensures c.word-n.ensures c.word-m.ensures c.length.ensures))), refl))))))
 
 pub returns : goal.returns
 returns c =
     record {
-      verdict = after_mark c.args.image.now c.is_marked.result c.is_marked.ensures c.if-not-is_marked.false-raw (after_version c.args.image.now c.is_known.result c.version-version.ensures c.is_known.ensures c.if-not-is_known.false-raw (after_vertices c.args.image.now c.word-n.ensures (omega arith) (after_edges c.args.image.now c.word-m.ensures (omega arith) (inr (c.if-image-length.false ∙ length_is c.args.image.now c.version-version.ensures c.word-n.ensures c.word-m.ensures c.length.ensures, refl)))));
+      verdict = after_mark c.args.image.now c.is_marked.result c.is_marked.ensures c.if-not-is_marked.false-raw
+          (after_version c.args.image.now c.is_known.result c.version-version.ensures c.is_known.ensures c.if-not-is_known.false-raw
+          (after_vertices c.args.image.now c.word-n.ensures (omega arith)
+          (after_edges c.args.image.now c.word-m.ensures (omega arith) (inr
+          (c.if-image-length.false ∙ length_is c.args.image.now c.version-version.ensures c.word-n.ensures c.word-m.ensures c.length.ensures, refl)))));
       taken = λ _. record { same_version = c.version-version.ensures; same_n = c.word-n.ensures; same_m = c.word-m.ensures };
       refused = λ wrong. absurd (wrong refl);
     }

@@ -20,9 +20,12 @@ lay_in_room-number-requires c =
 
 pub returns-then-number-ne0 : goal.returns-then-number-ne0
 returns-then-number-ne0 c =
-    load_refused_by_room c.look-sizes.ensures c.if-sizes-ne0.false {lent = slices c.args.starts.now c.args.targets.now c.args.counts.now c.args.lengths.now} {after = slices c.lay_in_room-number.new.starts c.lay_in_room-number.new.targets c.lay_in_room-number.new.counts c.lay_in_room-number.new.lengths} c.lay_in_room-number.ensures
+    load_refused_by_room c.look-sizes.ensures c.if-sizes-ne0.false {lent = slices c.args.starts.now c.args.targets.now c.args.counts.now c.args.lengths.now}
+    {after = slices c.lay_in_room-number.new.starts c.lay_in_room-number.new.targets c.lay_in_room-number.new.counts c.lay_in_room-number.new.lengths} c.lay_in_room-number.ensures
     c.if-number-ne0.true c.refused-then-number-ne0.ensures
 
 pub returns : goal.returns
 returns c =
-    load_taken c.look-sizes.ensures c.if-sizes-ne0.false {lent = slices c.args.starts.now c.args.targets.now c.args.counts.now c.args.lengths.now} {after = slices c.lay_in_room-number.new.starts c.lay_in_room-number.new.targets c.lay_in_room-number.new.counts c.lay_in_room-number.new.lengths} c.lay_in_room-number.ensures c.if-number-ne0.false
+    load_taken c.look-sizes.ensures c.if-sizes-ne0.false {lent = slices c.args.starts.now c.args.targets.now c.args.counts.now c.args.lengths.now}
+    {after = slices c.lay_in_room-number.new.starts c.lay_in_room-number.new.targets c.lay_in_room-number.new.counts c.lay_in_room-number.new.lengths}
+    c.lay_in_room-number.ensures c.if-number-ne0.false

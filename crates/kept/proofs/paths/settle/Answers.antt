@@ -51,16 +51,36 @@ choose-choice-requires c = let p = c.requires in
     rw c.row.ensures (settle_choosable p (at.k - 1) (omega arith) settled (omega (arith, p.best_room, at.invariant.1)) (omega (arith, p.next_room, at.invariant.2)))
 
 pub offset_bounds-best-v : goal.offset_bounds-best-v
-offset_bounds-best-v c = omega (arith, below c.args.starts.now c.args.targets.now c.args.visited.now c.args.t c.loop-k.k c.requires.order (omega arith) (omega arith), c.requires.best_room, c.loop-k.invariant.1)
+offset_bounds-best-v c = omega (
+  arith,
+  below c.args.starts.now c.args.targets.now c.args.visited.now c.args.t c.loop-k.k c.requires.order (omega arith) (omega arith),
+  c.requires.best_room,
+  c.loop-k.invariant.1,
+)
 
 pub bounds-best-v : goal.bounds-best-v
-bounds-best-v c = omega (arith, below c.args.starts.now c.args.targets.now c.args.visited.now c.args.t c.loop-k.k c.requires.order (omega arith) (omega arith), c.requires.best_room, c.loop-k.invariant.1)
+bounds-best-v c = omega (
+  arith,
+  below c.args.starts.now c.args.targets.now c.args.visited.now c.args.t c.loop-k.k c.requires.order (omega arith) (omega arith),
+  c.requires.best_room,
+  c.loop-k.invariant.1,
+)
 
 pub offset_bounds-next-v : goal.offset_bounds-next-v
-offset_bounds-next-v c = omega (arith, below c.args.starts.now c.args.targets.now c.args.visited.now c.args.t c.loop-k.k c.requires.order (omega arith) (omega arith), c.requires.next_room, c.loop-k.invariant.2)
+offset_bounds-next-v c = omega (
+  arith,
+  below c.args.starts.now c.args.targets.now c.args.visited.now c.args.t c.loop-k.k c.requires.order (omega arith) (omega arith),
+  c.requires.next_room,
+  c.loop-k.invariant.2,
+)
 
 pub bounds-next-v : goal.bounds-next-v
-bounds-next-v c = omega (arith, below c.args.starts.now c.args.targets.now c.args.visited.now c.args.t c.loop-k.k c.requires.order (omega arith) (omega arith), c.requires.next_room, c.loop-k.invariant.2)
+bounds-next-v c = omega (
+  arith,
+  below c.args.starts.now c.args.targets.now c.args.visited.now c.args.t c.loop-k.k c.requires.order (omega arith) (omega arith),
+  c.requires.next_room,
+  c.loop-k.invariant.2,
+)
 
 pub loop-k-smaller : goal.loop-k-smaller
 loop-k-smaller c = omega arith

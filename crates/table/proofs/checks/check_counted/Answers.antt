@@ -13,7 +13,8 @@ returns-then-number-ne0 c = let table = (let it : Table = record { rows = record
     stops (table_demands table.rows) (count_demands table) c.check-number.result c.if-number-ne0.true c.check-number.ensures
 
 pub overflow_sub-starts : goal.overflow_sub-starts
-overflow_sub-starts c = omega (arith, (table_met (let it : Table = record { rows = record { starts = c.args.starts.now; targets = c.args.targets.now }; counts = c.args.counts.now } in it).rows (rw c.if-number-ne0.false at c.check-number.ensures)).0.0)
+overflow_sub-starts c = let table : Table = record { rows = record { starts = c.args.starts.now; targets = c.args.targets.now }; counts = c.args.counts.now } in
+    omega (arith, (table_met table.rows (rw c.if-number-ne0.false at c.check-number.ensures)).0.0)
 
 pub returns-then-counts-starts : goal.returns-then-counts-starts
 returns-then-counts-starts c = let table = (let it : Table = record { rows = record { starts = c.args.starts.now; targets = c.args.targets.now }; counts = c.args.counts.now } in it) in
