@@ -1,4 +1,8 @@
-// The numbers that the system gives to errors.
+// The numbers that the system gives to errors. They are no enum: `io::Error` hands out a number, and any may come.
+ghost use Rattle.std.specs.Prelude.{◌≢◌, pos};
+
+use std::io;
+use std::io::ErrorKind;
 
 // It is not allowed.
 pub const EPERM: i32 = 1;
@@ -56,3 +60,15 @@ pub const ELOOP: i32 = 40;
 
 // A name is no text in UTF-8. The system has no such number: its own end below this one.
 pub const NOT_TEXT: i32 = 4_096;
+
+// The number of the error of a call that failed, never 0. One that the library found before the system was called has none: that of a name with a 0 in it is the system's own for such a name.
+// Any other without a number counts as a fault of the device.
+pub fn number(error: &io::Error) -> i32
+    ensures { result ≢ pos 0 }
+{
+    match error.raw_os_error() {
+        Some(number) if number != 0 => number,
+        None if error.kind() == ErrorKind::InvalidInput => EINVAL,
+        _ => EIO,
+    }
+}

@@ -4,171 +4,88 @@
 // that does not fit its operation ends the run with the line `bad case`.
 #![tactic(auto)]
 
-mod bodies;
-mod bytes;
-mod checks;
+mod body;
 mod folds;
 mod images;
-mod lists;
 mod most;
+mod operation;
 mod output;
-mod puts;
-mod step;
+mod store;
+mod tables;
 
-ghost use Rattle.std.specs.Prelude.{◌≤◌, ◌<◌, ◌≡◌, length};
-ghost use Rattle.batch.specs.Buffer.{Place};
-
-use bytes::number;
-use checks::check_case;
+use body::{BadCase, Body};
 use folds::fold_case;
-use images::{load_case, look_case, show_case, write_case};
-use lists::{judge_case, list_case};
-use most::{BODY, EDGES, VERTICES};
-use step::{Step, bad_case, last};
+use images::{load_case, look_case, show_case, write_case, write_lengths_case};
+use most::BODY;
+use operation::Operation;
+use output::Output;
+use store::Store;
+use tables::{check_case, judge_case, list_case};
 
-// A case as it was read: whether there is one, its operation, and the length of its body. One that is cut off, too long or could not be read has the operation 0, which is none.
+// A case as it was read.
 #[derive(Clone, Copy)]
-struct Case {
-    more: bool,
-    operation: u8,
-    length: usize,
-}
-
-fn cut_off() -> Case
-    ensures { result.length ≡ 0 }
-{
-    Case {
-        more: true,
-        operation: 0,
-        length: 0,
-    }
-}
-
-// Reads the body of a case behind its head.
-fn read_body(rt: &HostRuntime, head: &[u8; 5], body: &mut [u8]) -> Case
-    ensures { result.length ≤ length body.new }
-{
-    let length = number(head, 1) as usize;
-    if length > body.len() {
-        return cut_off();
-    }
-    let came = files::read(&mut rt.stdin(), body, length);
-    if came.error != 0 || came.count < length {
-        return cut_off();
-    }
-    Case {
-        more: true,
-        operation: head[0],
-        length,
-    }
+struct Case<'a> {
+    operation: Operation,
+    body: Body<'a>,
 }
 
 // Reads a case, or finds the input at its end.
-fn next_case(rt: &HostRuntime, body: &mut [u8]) -> Case
-    ensures { result.length ≤ length body.new }
-{
+fn next_case<'a>(rt: &HostRuntime, bytes: &'a mut [u8]) -> Result<Option<Case<'a>>, BadCase> {
     let mut head = [0u8; 5];
-    let came = files::read(&mut rt.stdin(), &mut head, 5);
-    if came.error != 0 {
-        return cut_off();
+    let came = files::read(&mut rt.stdin(), &mut head, 5)?;
+    if came == 0 {
+        return Ok(None);
     }
-    if came.count == 0 {
-        return Case {
-            more: false,
-            operation: 0,
-            length: 0,
-        };
+    if came < 5 {
+        return Err(BadCase);
     }
-    if came.count < 5 {
-        return cut_off();
+    let [operation, a, b, c, d] = head;
+    let length = u32::from_le_bytes([a, b, c, d]) as usize;
+    let bytes = bytes.get_mut(..length).ok_or(BadCase)?;
+    if files::read(&mut rt.stdin(), bytes, length)? < length {
+        return Err(BadCase);
     }
-    read_body(rt, &head, body)
+    Ok(Some(Case {
+        operation: Operation::try_from(operation)?,
+        body: Body::new(bytes),
+    }))
 }
 
 // Answers a case.
-fn answer(
-    out: &mut output::Output,
-    at: usize,
-    operation: u8,
-    body: &[u8],
-    words: &mut [u32],
-    counts: &mut [u64],
-) -> Step
-    requires { Place at }
-    ensures { Place result.place }
-{
-    match operation {
-        b's' => show_case(out, at, body),
-        b't' => check_case(out, at, body, words, counts),
-        b'w' | b'x' => write_case(out, at, operation, body, words, counts),
-        b'k' => look_case(out, at, body),
-        b'd' => load_case(out, at, body),
-        b'l' => list_case(out, at, body, words),
-        b'j' => judge_case(out, at, body, words),
-        b'f' | b'g' | b'r' | b'q' => fold_case(out, at, operation, body, words, counts),
-        _ => bad_case(out, at),
+fn answer(case: Case<'_>, store: &mut Store, out: &mut Output) -> Result<(), BadCase> {
+    let body = case.body;
+    match case.operation {
+        Operation::Show => show_case(body, out),
+        Operation::Check => check_case(body, store, out),
+        Operation::Write => write_case(body, store, out),
+        Operation::WriteLengths => write_lengths_case(body, store, out),
+        Operation::Look => look_case(body, out),
+        Operation::Load => load_case(body, out),
+        Operation::List => list_case(body, store, out),
+        Operation::Judge => judge_case(body, store, out),
+        Operation::Fold(fold) => fold_case(fold, body, store, out),
     }
 }
 
-// Reads and answers one case, or finds the input at its end.
-fn one_case(
-    rt: &HostRuntime,
-    out: &mut output::Output,
-    at: usize,
-    body: &mut [u8],
-    words: &mut [u32],
-    counts: &mut [u64],
-) -> Step
-    requires { Place at }
-    ensures { Place result.place }
-{
-    let case = next_case(rt, body);
-    if !case.more {
-        return last(at);
+// Answers every case up to the end of the input. A proved loop has to end, and nothing says that the input does: so it has as many turns as no run uses up.
+fn answer_all(rt: &HostRuntime, out: &mut Output) -> Result<(), BadCase> {
+    let mut bytes = [0u8; BODY];
+    let mut store = Store::new();
+    for _ in 0..u64::MAX {
+        let Some(case) = next_case(rt, &mut bytes)? else {
+            break;
+        };
+        answer(case, &mut store, out)?;
     }
-    let length = case.length;
-    answer(out, at, case.operation, &body[0..length], words, counts)
-}
-
-// The turns that are left after one: none after the last case.
-fn turns_left(turns: u64, more: bool) -> u64
-    requires { 0 < turns }
-    ensures { result < turns }
-{
-    if more { turns - 1 } else { 0 }
-}
-
-// Writes out what is left, and says so where it could not be written.
-fn finish(rt: &HostRuntime, out: &output::Output, at: usize)
-    requires { Place at }
-{
-    if !output::flush(out, at) {
-        messages::unprinted(&rt.stderr());
-    }
-}
-
-// Answers every case, and writes out what is left. A proved loop has to end, and nothing says that the input does: so it counts its turns down, from a number that no run uses up.
-fn all_cases(
-    rt: &HostRuntime,
-    out: &mut output::Output,
-    body: &mut [u8],
-    words: &mut [u32],
-    counts: &mut [u64],
-) {
-    let mut turns = u64::MAX;
-    let mut at = 0;
-    while turns > 0 {
-        let step = one_case(rt, out, at, body, words, counts);
-        at = step.place;
-        turns = turns_left(turns, step.more);
-    }
-    finish(rt, out, at);
+    Ok(())
 }
 
 fn main(rt: HostRuntime) {
-    let mut out = output::empty(rt.stdout());
-    let mut body = [0u8; BODY];
-    let mut words = [0u32; VERTICES + EDGES];
-    let mut counts = [0u64; VERTICES];
-    all_cases(&rt, &mut out, &mut body, &mut words, &mut counts);
+    let mut out = Output::new(rt.stdout());
+    if answer_all(&rt, &mut out).is_err() {
+        out.bytes(b"bad case\n");
+    }
+    if out.finish().is_err() {
+        messages::unprinted(&rt.stderr());
+    }
 }

@@ -1,13 +1,10 @@
 -- Laws of the entrances: one vertex more, as a caller meets them who goes over the vertices in turn; and that they are listed. Assumes nothing.
-use Prim.Native.Nat.{ℕ, zero, suc, ◌+◌, ◌≤◌, ◌<◌}
-use mathlib.Core.Path.{◌≡◌, ap, ◌∙◌}
+use Rattle.std.proofs.Common.{Bool, refl, sym, ℕ, zero, suc, ◌+◌, ◌≤◌, ◌<◌, ◌≡◌, ap, ◌∙◌, List, [], ◌∷◌, ◌++◌}
+use Rattle.std.proofs.Common.{ltb, take, count_by, append-nil, add-one, arith, lt-ltb, le-ltb, length, get_or, length-append}
+use lib.Seq.{take-length}
+use Rattle.std.proofs.lemmas.List.Sums.{count_by_more_yes, count_by_more_no}
 use mathlib.Core.List.Memᴰ
-use mathlib.Core.List.{List, [], ◌∷◌, ◌++◌, append-nil}
-use native.Mathlib.Numerals.{add-one}
-use native.Mathlib.Omega.{arith}
 use native.Mathlib.Decide.{dec_lt}
-use borrow.Author.Tests.{lt-ltb, le-ltb}
-use lib.ListN.{length, get_or, length-append}
 use Rattle.rule.specs.Lists.{Rising.empty, Listing}
 use Rattle.rule.proofs.Listings.{listing_grows, listing_stays}
 use Rattle.candidates.specs.Candidates.{entrances_below, entrances}
@@ -42,3 +39,19 @@ listed_below exits (suc s) =
 -- all of them
 pub entrances_are : (exits : List ℕ) → Listing (HasExit exits (length exits)) (entrances exits)
 entrances_are exits = listed_below exits (length exits)
+
+-- as many as the exits that are vertices
+counted_below : (exits : List ℕ) (s : ℕ) → s ≤ length exits → length (entrances_below exits s) ≡ count_by (λ x. ltb x (length exits)) (take s exits)
+counted_below exits zero h = refl
+counted_below exits (suc s) h =
+    let test : ℕ → Bool = λ x. ltb x (length exits) in
+    let before = counted_below exits s (omega arith) in
+    let next : length (entrances_below exits (s + 1)) ≡ count_by test (take (s + 1) exits) =
+    elim (dec_lt (get_or exits s 0) (length exits)) [
+      | yes l ↦ omega (arith, before, count_more exits s l, count_by_more_yes test exits s 0 (omega arith) (lt-ltb (get_or exits s 0) (length exits) l))
+      | no n ↦ omega (arith, before, count_none exits s (omega arith), count_by_more_no test exits s 0 (omega arith) (le-ltb (get_or exits s 0) (length exits) (omega arith)))
+    ] in
+    rw (add-one s) at next
+
+pub entrances_counted : (exits : List ℕ) → count_by (λ x. ltb x (length exits)) exits ≡ length (entrances exits)
+entrances_counted exits = sym (counted_below exits (length exits) (omega arith) ∙ ap (count_by (λ x. ltb x (length exits))) (take-length exits))

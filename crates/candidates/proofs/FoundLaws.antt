@@ -1,11 +1,6 @@
 -- What follows from the contract: the entrances found are those of the candidates, searches can go on from them, and two results coincide. Assumes nothing.
-use Prim.Native.Nat.{ℕ, ◌<◌}
-use mathlib.Core.Path.{◌≡◌, sym, ap, ◌∙◌}
-use mathlib.Core.List.{List}
-use native.Mathlib.Omega.{arith}
+use Rattle.std.proofs.Common.{ℕ, ◌<◌, ◌≡◌, sym, ap, ◌∙◌, List, arith, length, get_or, ext_get_or}
 use native.Mathlib.Decide.{dec_lt}
-use lib.ListN.{length, get_or}
-use lib.Seq.{ext_get_or}
 use Rattle.table.specs.Table.{Rows, size, edges}
 use Rattle.bubble.specs.Superbubble.{F.start}
 use Rattle.bubble.proofs.Facts.{successor}

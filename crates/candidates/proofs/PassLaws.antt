@@ -1,13 +1,6 @@
 -- One entrance more is passed: it is ruled out already, or begins no superbubble that is taken, or begins one. Over any graph. Assumes nothing.
-use Prim.Native.Nat.{ℕ, ◌+◌, ◌≤◌, ◌<◌}
-use mathlib.Core.Path.{◌≡◌, refl, sym, ◌∙◌}
-use mathlib.Core.Logic.{◌≢◌, ◌↔◌}
-use mathlib.Core.List.{List}
-use native.Mathlib.Nat.{le_refl}
-use native.Mathlib.Omega.{arith}
+use Rattle.std.proofs.Common.{ℕ, ◌+◌, ◌≤◌, ◌<◌, ◌≡◌, refl, sym, ◌∙◌, ◌≢◌, ◌↔◌, List, le_refl, arith, get_or, set, length-set, get_or-set_same, get_or-set_other}
 use native.Mathlib.Decide.{ℕ_discrete}
-use lib.ListN.{length, get_or, set, length-set}
-use lib.Seq.{get_or-set_same, get_or-set_other}
 use Rattle.table.specs.Table.{In}
 use Rattle.bubble.specs.Superbubble.{Interior}
 use Rattle.bubble.proofs.Nesting.{nest, outermost_by_entrance}
@@ -51,16 +44,6 @@ later e = record { entrance = e.entrance; exit = e.exit; passed = omega (arith, 
 
 earlier : {P : CandidateSet} {E : Graph} {s v : ℕ} (e : Enclosed P E (s + 1) v) → e.entrance ≢ s → Enclosed P E s v
 earlier e n = record { entrance = e.entrance; exit = e.exit; passed = omega (arith, e.passed); taken = e.taken; inside = e.inside }
-
--- nothing is passed yet, and nothing ruled out
-pub pass_start : {rings : Rings} {E : Graph} {n : ℕ} (exits : List ℕ) → length exits ≡ n → ((v : ℕ) → get_or exits v 0 ≡ 0) → Passed rings E n 0 exits
-pass_start exits long zeros = record {
-  each = long;
-  taken = λ v l m. absurd (let no : ⊥ = omega arith in no);
-  none = λ v l q. absurd (let no : ⊥ = omega arith in no);
-  out = λ v e. absurd (let no : ⊥ = omega (arith, e.passed) in no);
-  enclosed = λ v l m q. absurd (let no : ⊥ = omega (arith, zeros v) in no);
-}
 
 module _ (rings : Rings) {E : Graph} {n s : ℕ} {exits : List ℕ} (p : Passed rings E n s exits) (here : s < n) where
   B : ByEntrance (candidates_of rings) (taken_of rings)

@@ -1,18 +1,9 @@
 -- Laws of ruling out: vertices that stand in a list get the mark for none, one after another. Assumes nothing.
-use Prim.Native.Nat.{ℕ, ◌+◌, ◌<◌}
-use mathlib.Core.Path.{◌≡◌, refl, sym, ◌∙◌}
-use mathlib.Core.List.{List}
-use native.Mathlib.Omega.{arith}
+use Rattle.std.proofs.Common.{ℕ, ◌+◌, ◌<◌, ◌≡◌, refl, sym, ◌∙◌, List, arith, length, get_or, take, set, length-set, get_or-set_same, get_or-set_other}
 use native.Mathlib.Decide.{ℕ_discrete}
-use lib.ListN.{length, get_or, take, set, length-set}
-use lib.Seq.{get_or-set_same, get_or-set_other}
 use Rattle.table.specs.Table.{In}
 use Rattle.parents.proofs.PlaceLaws.{in_take, take_in}
 use Rattle.candidates.specs.Steps.{RuledOut}
-
--- none is ruled out yet
-pub ruled_none : (list exits : List ℕ) (none : ℕ) → RuledOut (take 0 list) exits exits none
-ruled_none list exits none = record { same = refl; out = λ v i. absurd (let no : ⊥ = omega (arith, i.inside) in no); others = λ v n. refl }
 
 -- one more is
 pub ruled_more : (list exits exits' : List ℕ) (none k : ℕ) → k < length list → get_or list k 0 < length exits → RuledOut (take k list) exits exits' none

@@ -1,31 +1,22 @@
 -- The scan over all entrances of a table: what holds after each, from the first to the last. Assumes nothing.
-use Prim.Native.Nat.{ℕ, ◌+◌, ◌-◌, ◌≤◌, ◌<◌}
-use mathlib.Core.Path.{◌≡◌, refl, sym, ◌∙◌}
-use mathlib.Core.Logic.{◌≢◌, ◌↔◌}
-use mathlib.Core.List.{List}
-use native.Mathlib.Omega.{arith}
+use Rattle.std.proofs.Common.{Option, Some, None, ℕ, ◌+◌, ◌-◌, ◌≤◌, ◌<◌, ◌≡◌, refl, sym, ◌∙◌, ◌≢◌, ◌↔◌, List, arith, length, get_or, drop, length-drop, get_or-drop}
 use native.Mathlib.Decide.{dec_lt}
-use lib.ListN.{length, get_or, drop, length-drop}
-use lib.Seq.{get_or-drop}
-use Rattle.table.specs.Table.{In, Below, Rows, size, edges, Sound}
+use Rattle.table.specs.Table.{In, Below, Rows, size, edges}
 use Rattle.table.proofs.RowLaws.{edges_below}
 use Rattle.bubble.specs.Superbubble.{Interior}
 use Rattle.bubble.proofs.Number.{exit_below, interior_below}
 use Rattle.bubble.proofs.Unique.{exit_unique}
 use Rattle.search.specs.declared.Exit.{Exit}
-use Rattle.search.specs.declared.Exit.TheVariants.{At, Nothing}
-use Rattle.parents.specs.Parents.{Parents}
 use Rattle.search.specs.Search.{Visited, Searched, Sought}
 use Rattle.rule.specs.Rings.{Passable}
 use Rattle.rule.specs.Way.{candidates_of}
 use Rattle.rule.specs.declared.Rings.{Rings}
 use Rattle.rule.proofs.Passable.{passed_once}
 use Rattle.skipping.specs.Skipping.{Skips, Found, Admitted, Admitted.unasked, Admitted.nothing, Admitted.passed, Admitted.skipped}
-use Rattle.parents.specs.Parents.{Zeros}
 use Rattle.parents.proofs.PlaceLaws.{in_take, take_in}
 use Rattle.candidates.specs.Candidates.{entrances, FindDone}
 use Rattle.candidates.specs.Steps.{inner, Notable, Noted, Filled, taken_of, Passed, Scan}
-use Rattle.candidates.proofs.PassLaws.{by_entrance, pass_start, pass_ruled, pass_none, pass_taken, pass_most, pass_sound, pass_no_other}
+use Rattle.candidates.proofs.PassLaws.{by_entrance, pass_ruled, pass_none, pass_taken, pass_most, pass_sound, pass_no_other}
 
 -- what stands behind the first of the first k has a place below k
 inner_place : (v : ℕ) (order : List ℕ) (k : ℕ) → k ≤ length order → In v (inner order k) → (i : ℕ) × (i + 1 < k) × (get_or order (i + 1) 0 ≡ v)
@@ -92,44 +83,37 @@ module _ {rows : Rows} {order : List ℕ} {s t k : ℕ} (visited : Visited rows.
   }
 
 -- what is left of what a search from s found: the visiting order of a superbubble that is taken if it has an interior, or that none begins at s that is taken
-abbrev Left : Rings → Rows → ℕ → Exit → List ℕ → Type 0
-Left rings rows s (At t k) order = Visited rows.starts rows.targets order s t k × (2 ≤ k → taken_of rings (edges rows) s t)
-Left rings rows s Nothing order = (t : ℕ) → taken_of rings (edges rows) s t → ⊥
+abbrev Left : Rings → Rows → ℕ → Option Exit → List ℕ → Type 0
+Left rings rows s (Some exit) order = Visited rows.starts rows.targets order s exit.vertex exit.visited × (2 ≤ exit.visited → taken_of rings (edges rows) s exit.vertex)
+Left rings rows s None order = (t : ℕ) → taken_of rings (edges rows) s t → ⊥
 
-admitted_left : {rings : Rings} {rows : Rows} {s : ℕ} (exit exit' : Exit) (order : List ℕ) → Searched rows.starts rows.targets s exit order
+admitted_left : {rings : Rings} {rows : Rows} {s : ℕ} (exit exit' : Option Exit) (order : List ℕ) → Searched rows.starts rows.targets s exit order
     → Admitted (edges rows) s rings exit exit' → Left rings rows s exit' order
-admitted_left {rows = rows} (At t k) exit' order visited unasked = (visited, filled {rows = rows} visited)
-admitted_left Nothing exit' order found unasked = λ t p. found t p.superbubble
-admitted_left Nothing exit' order found nothing = λ t p. found t p.superbubble
-admitted_left {rows = rows} (At t k) exit' order visited (passed free) = (visited, λ h. passable {rows = rows} visited h free)
-admitted_left {rows = rows} (At t k) exit' order visited (skipped skips) = skipped_none {rows = rows} visited skips
-
-module _ {rings : Rings} {rows : Rows} where
-  -- no entrance is passed yet
-  pub scan_start : {parents pending order exits exits' : List ℕ} → Sound rows → Parents (size rows) rows.targets parents
-      → pending ≡ parents → size rows ≤ length order → length exits ≡ size rows → Zeros exits exits' → Scan rings rows parents pending order exits' 0
-  scan_start {exits' = exits'} ok a same room long zeros =
-      record { well_formed = ok; counted = a; whole = same; room = room; passed = pass_start exits' (zeros.same ∙ long) zeros.zeros }
+admitted_left {rows = rows} (Some exit) exit' order visited unasked = (visited, filled {rows = rows} visited)
+admitted_left None exit' order found unasked = λ t p. found t p.superbubble
+admitted_left None exit' order found nothing = λ t p. found t p.superbubble
+admitted_left {rows = rows} (Some exit) exit' order visited (passed free) = (visited, λ h. passable {rows = rows} visited h free)
+admitted_left {rows = rows} (Some exit) exit' order visited (skipped skips) = skipped_none {rows = rows} visited skips
 
 module _ {rings : Rings} {rows : Rows} {parents pending order exits : List ℕ} {s : ℕ} (scan : Scan rings rows parents pending order exits s) where
   -- what the search from s found can be asked whether it is skipped,
-  pub scan_found : (exit : Exit) (order' : List ℕ) → s < size rows → Searched rows.starts rows.targets s exit order' → Found rows.starts rows.targets s exit
-  scan_found (At t k) order' h visited =
+  pub scan_found : (exit : Option Exit) (order' : List ℕ) → s < size rows → Searched rows.starts rows.targets s exit order' → Found rows.starts rows.targets s exit
+  scan_found (Some exit) order' h visited =
       record { well_formed = scan.well_formed; entrance = h; exit = exit_below (edges_below scan.well_formed) visited.superbubble.bubbloid }
-  scan_found Nothing order' h none = tt
+  scan_found None order' h none = tt
 
   -- and what is left of it can be noted
-  left_notable : (exit : Exit) (order' : List ℕ) → s < size rows → Left rings rows s exit order' → Notable order' exits s exit
-  left_notable (At t k) order' h (visited, taken) =
+  left_notable : (exit : Option Exit) (order' : List ℕ) → s < size rows → Left rings rows s exit order' → Notable order' exits s exit
+  left_notable (Some exit) order' h (visited, taken) =
       record { vertex = omega (arith, scan.passed.each); few = omega (arith, scan.passed.each, scan.well_formed.most_vertices); room = visited.room; below = below }
     where
-      below : Below (length exits) (inner order' k)
+      below : Below (length exits) (inner order' exit.visited)
       below i l =
-          let inside = (inner_is {rows = rows} visited (get_or (inner order' k) i 0)).0 (record { place = i; inside = l; stands = refl }) in
+          let inside = (inner_is {rows = rows} visited (get_or (inner order' exit.visited) i 0)).0 (record { place = i; inside = l; stands = refl }) in
           omega (arith, scan.passed.each, interior_below (edges_below scan.well_formed) inside)
-  left_notable Nothing order' h none = (omega (arith, scan.passed.each), omega (arith, scan.passed.each, scan.well_formed.most_vertices))
+  left_notable None order' h none = (omega (arith, scan.passed.each), omega (arith, scan.passed.each, scan.well_formed.most_vertices))
 
-  pub scan_notable : (exit exit' : Exit) (order' : List ℕ) → s < size rows → Searched rows.starts rows.targets s exit order'
+  pub scan_notable : (exit exit' : Option Exit) (order' : List ℕ) → s < size rows → Searched rows.starts rows.targets s exit order'
       → Admitted (edges rows) s rings exit exit' → Notable order' exits s exit'
   scan_notable exit exit' order' h searched admitted = left_notable exit' order' h (admitted_left exit exit' order' searched admitted)
 
@@ -144,21 +128,21 @@ module _ {rings : Rings} {rows : Rows} {parents pending order exits : List ℕ} 
         passed = pass_ruled rings scan.passed h (q ∙ scan.passed.each);
       }
 
-  next : (exit : Exit) (order' exits' : List ℕ) → s < size rows → get_or exits s 0 ≢ length exits
+  next : (exit : Option Exit) (order' exits' : List ℕ) → s < size rows → get_or exits s 0 ≢ length exits
       → Left rings rows s exit order' → Noted order' exits exits' s exit → Passed rings (edges rows) (size rows) (s + 1) exits'
-  next (At t k) order' exits' h free (visited, taken) noted =
+  next (Some exit) order' exits' h free (visited, taken) noted =
       let long = scan.passed.each in
-      elim (dec_lt k 2) [
+      elim (dec_lt exit.visited 2) [
         | yes l ↦ rw (noted.empty l, long) (pass_none rings scan.passed h (no_interior {rows = rows} visited l rings))
         | no n ↦
-            let l : 2 ≤ k = omega arith in
+            let l : 2 ≤ exit.visited = omega arith in
             pass_taken rings scan.passed h (rw long at free) (exit_below (edges_below scan.well_formed) visited.superbubble.bubbloid) (taken l)
             (inner_is {rows = rows} visited) (rw long at (noted.taken l))
       ]
-  next Nothing order' exits' h free none noted = rw (noted, scan.passed.each) (pass_none rings scan.passed h none)
+  next None order' exits' h free none noted = rw (noted, scan.passed.each) (pass_none rings scan.passed h none)
 
   -- what is left of what the search from s found was noted
-  pub scan_noted : {pending' order' exits' : List ℕ} (exit exit' : Exit) → s < size rows → get_or exits s 0 ≢ length exits
+  pub scan_noted : {pending' order' exits' : List ℕ} (exit exit' : Option Exit) → s < size rows → get_or exits s 0 ≢ length exits
       → Sought rows.starts rows.targets pending order pending' order' s exit → Admitted (edges rows) s rings exit exit' → Noted order' exits exits' s exit'
       → Scan rings rows parents pending' order' exits' (s + 1)
   scan_noted {order' = order'} {exits' = exits'} exit exit' h free sought admitted noted =

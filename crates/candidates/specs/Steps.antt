@@ -1,10 +1,9 @@
 -- What the steps of finding the candidates state between themselves. Assumes nothing.
-use Rattle.std.specs.Prelude.{ℕ, ◌-◌, ◌≤◌, ◌<◌, ◌≡◌, ◌≢◌, List, length, get_or, take, drop, set}
+use Rattle.std.specs.Prelude.{ℕ, ◌-◌, ◌≤◌, ◌<◌, ◌≡◌, ◌≢◌, List, Option, Some, None, length, get_or, take, drop, set}
 use Rattle.table.specs.Limits.{vertex_limit}
 use Rattle.table.specs.Table.{In, Below, Rows, size, edges, Sound}
 use Rattle.bubble.specs.Superbubble.{Interior, Superbubble}
 use Rattle.search.specs.declared.Exit.{Exit}
-use Rattle.search.specs.declared.Exit.TheVariants.{At, Nothing}
 use Rattle.parents.specs.Parents.{Parents}
 use Rattle.rule.specs.Lists.{Graph, CandidateSet}
 use Rattle.rule.specs.Rings.{Passable}
@@ -36,14 +35,14 @@ pub record ExitSet (order exits exits' : List ℕ) (s t k : ℕ) : Type 0 where
   pub taken : 2 ≤ k → RuledOut (inner order k) (set exits s t) exits' (no_exit (length exits))
 
 -- what is left of what a search from s found can be noted
-abbrev pub Notable : List ℕ → List ℕ → ℕ → Exit → Type 0
-Notable order exits s (At t k) = ExitSettable order exits s k
-Notable order exits s Nothing = (s < length exits) × (length exits ≤ vertex_limit)
+abbrev pub Notable : List ℕ → List ℕ → ℕ → Option Exit → Type 0
+Notable order exits s (Some exit) = ExitSettable order exits s exit.visited
+Notable order exits s None = (s < length exits) × (length exits ≤ vertex_limit)
 
 -- and was noted
-abbrev pub Noted : List ℕ → List ℕ → List ℕ → ℕ → Exit → Type 0
-Noted order exits exits' s (At t k) = ExitSet order exits exits' s t k
-Noted order exits exits' s Nothing = exits' ≡ set exits s (no_exit (length exits))
+abbrev pub Noted : List ℕ → List ℕ → List ℕ → ℕ → Option Exit → Type 0
+Noted order exits exits' s (Some exit) = ExitSet order exits exits' s exit.vertex exit.visited
+Noted order exits exits' s None = exits' ≡ set exits s (no_exit (length exits))
 
 -- s, t is a superbubble with an interior
 pub record Filled (E : Graph) (s t : ℕ) : Type 0 where

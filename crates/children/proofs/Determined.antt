@@ -1,10 +1,6 @@
 -- Two results that the contract of `choose` allows coincide: the child and the gain. Assumes nothing.
-use Prim.Native.Nat.{ℕ}
-use mathlib.Core.Path.{◌≡◌, sym, ap, ◌∙◌}
-use mathlib.Core.List.{List}
+use Rattle.std.proofs.Common.{ℕ, ◌≡◌, sym, ap, ◌∙◌, List, arith, length, get_or}
 use native.Mathlib.Decide.{dec_lt}
-use native.Mathlib.Omega.{arith}
-use lib.ListN.{length, get_or}
 use Rattle.rule.specs.Tables.{count_of}
 use Rattle.rule.specs.Next.{worth}
 use Rattle.rule.specs.declared.Choosing.{Choosing}

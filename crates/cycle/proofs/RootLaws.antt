@@ -1,31 +1,22 @@
 -- Laws of the visits from one vertex after another: what holds once the first v of them are done. Assumes nothing.
-use Prim.Native.Nat.{ℕ, ◌+◌, ◌≤◌, ◌<◌}
-use mathlib.Core.Path.{◌≡◌}
-use mathlib.Core.Logic.{◌⊎◌, inl, inr, ⊎_elim}
-use mathlib.Core.Bool.{Bool, true, false}
-use mathlib.Core.List.{List}
-use native.Mathlib.Omega.{arith}
+use Rattle.std.proofs.Common.{ℕ, ◌+◌, ◌≤◌, ◌<◌, ◌≡◌, ◌⊎◌, inl, inr, ⊎_elim, List, get_or, arith}
 use native.Mathlib.Decide.{ℕ_discrete}
-use lib.ListN.{get_or}
 use Rattle.table.specs.Table.{vertices}
 use Rattle.table.proofs.RowLaws.{edges_below}
 use Rattle.bubble.specs.Cycle.{Cyclic}
-use Rattle.visiting.specs.Visits.{Followed, Prepared, Safe, Visitable, RootDone, VisitAnswer}
+use Rattle.visiting.specs.declared.Turn.{Turn}
+use Rattle.visiting.specs.Visits.{Followed, Prepared, Safe, RootDone, LeadsToCycle}
 use Rattle.visiting.proofs.SafeLaws.{safe_no_cycle, safe_beyond, cyclic_fewer, leads_cyclic}
 
 -- the first v vertices are done, and all that became done since the walk began is safe; what was done stays so, and none is on the path
-pub record FirstDone (starts targets before : List ℕ) (from to : ℕ) (colours path places : List ℕ) (v : ℕ) : Type 0 where
-  pub prepared : Prepared starts targets colours path places
+pub record FirstDone (starts targets before : List ℕ) (from to : ℕ) (colours : List ℕ) (path : List Turn) (v : ℕ) : Type 0 where
+  pub prepared : Prepared starts targets colours path
   pub stays : (u : ℕ) → 2 ≤ get_or before u 0 → 2 ≤ get_or colours u 0
   pub done : (u : ℕ) → u < v → 2 ≤ get_or colours u 0
   pub done_safe : (u : ℕ) → u < vertices starts → get_or before u 0 ≡ 0 → 2 ≤ get_or colours u 0 → Safe (Followed starts targets before from to) u
 
--- none is done yet
-pub none_done : {starts targets colours path places : List ℕ} {from to : ℕ} → Prepared starts targets colours path places → FirstDone starts targets colours from to colours path places 0
-none_done can = record { prepared = can; stays = λ u h. h; done = λ u l. absurd (omega (arith, l)); done_safe = λ u l z d. absurd (omega (arith, z, d)) }
-
 module _ {starts targets before : List ℕ} {from to : ℕ} (can : (u : ℕ) → u < vertices starts → (get_or before u 0 ≡ 0) ⊎ (2 ≤ get_or before u 0))
-    {colours path places : List ℕ} {v : ℕ} (first : FirstDone starts targets before from to colours path places v) where
+    {colours : List ℕ} {path : List Turn} {v : ℕ} (first : FirstDone starts targets before from to colours path v) where
   -- a vertex that is unvisited was so before
   was_unvisited : (u : ℕ) → u < vertices starts → get_or colours u 0 ≡ 0 → get_or before u 0 ≡ 0
   was_unvisited u l q = ⊎_elim (λ z. z) (λ d. absurd (omega (arith, q, first.stays u d))) (can u l)
@@ -37,9 +28,8 @@ module _ {starts targets before : List ℕ} {from to : ℕ} (can : (u : ℕ) →
       record { edge = e.edge; leaves = was_unvisited u l e.leaves; enters = was_unvisited w m e.enters; other = e.other }
 
   -- so a cycle that a visit finds is one
-  pub cycle_found : (r : Bool) (colours' path' places' : List ℕ) → r ≡ true → VisitAnswer r starts targets colours from to v colours' path' places'
-      → Cyclic (Followed starts targets before from to)
-  cycle_found r colours' path' places' q answer = cyclic_fewer followed_before (leads_cyclic (rw q at answer))
+  pub cycle_found : LeadsToCycle (Followed starts targets colours from to) v → Cyclic (Followed starts targets before from to)
+  cycle_found met = cyclic_fewer followed_before (leads_cyclic met)
 
   -- an edge from an unvisited vertex leads to another one, or to one that is safe
   leads_on : (u w : ℕ) → get_or colours u 0 ≡ 0 → Followed starts targets before from to u w
@@ -50,8 +40,8 @@ module _ {starts targets before : List ℕ} {from to : ℕ} (can : (u : ℕ) →
       (first.prepared.none_on_path w m)
 
   -- so what a visit leaves safe is safe, and v is done, too
-  visited_too : {colours' path' places' : List ℕ} → RootDone starts targets colours from to v colours' path' places'
-      → FirstDone starts targets before from to colours' path' places' (v + 1)
+  pub visited_too : {colours' : List ℕ} {path' : List Turn} → RootDone starts targets colours from to v colours' path'
+      → FirstDone starts targets before from to colours' path' (v + 1)
   visited_too was =
       record {
         prepared = was.prepared;
@@ -60,15 +50,6 @@ module _ {starts targets before : List ℕ} {from to : ℕ} (can : (u : ℕ) →
         done_safe = λ u l z d.
             ⊎_elim (λ q. safe_beyond {P = λ x. get_or colours x 0 ≡ 0} leads_on q (was.done_safe u l q d)) (λ h. first.done_safe u l z h) (first.prepared.none_on_path u l);
       }
-
-  -- where it finds no cycle
-  pub next_done : (r : Bool) (colours' path' places' : List ℕ) → r ≡ false → VisitAnswer r starts targets colours from to v colours' path' places'
-      → FirstDone starts targets before from to colours' path' places' (v + 1)
-  next_done r colours' path' places' q answer = visited_too (rw q at answer)
-
-  -- v can be visited
-  pub can_visit : v < vertices starts → Visitable starts targets colours path places v
-  can_visit l = record { prepared = first.prepared; vertex = l }
 
   -- where all are done, there is no cycle
   pub none_closes : vertices starts ≤ v → Cyclic (Followed starts targets before from to) → ⊥

@@ -4,13 +4,13 @@
 ghost use Rattle.std.specs.Prelude.{◌≤◌, ◌≡◌, length};
 ghost use Rattle.table.specs.Limits.{vertex_limit};
 ghost use Rattle.table.specs.Verdict.{Says};
-ghost use Rattle.table.specs.Table.{Edge};
+ghost use Rattle.table.specs.Table.{edges};
 ghost use Rattle.bubble.specs.Cycle.{Cyclic};
 ghost use Rattle.visiting.specs.Visits.{Followed, Prepared};
 ghost use Rattle.cycle.specs.Testing.{Testable, Unvisited};
 
-use table::VERTEX_LIMIT;
-use visiting::visit;
+use table::{Rows, VERTEX_LIMIT};
+use visiting::{Turn, visit};
 
 // Sets the first n colours to 0.
 fn clear(colours: &mut [u8; VERTEX_LIMIT], n: usize)
@@ -18,46 +18,39 @@ fn clear(colours: &mut [u8; VERTEX_LIMIT], n: usize)
     requires n_le_vertex_limit { n ≤ vertex_limit }
     ensures { Unvisited n colours.old colours.new }
 {
-    let mut u = 0;
-    while u < n {
-        colours[u] = 0;
-        u += 1;
-    }
+    colours[..n].fill(0);
 }
 
 // Whether the edges between unvisited vertices have a directed cycle, the edge from>to passed over. So a colour of 2 or more keeps a vertex out, and where `from` is no vertex
-// no edge is passed over. The colours, the path and the places are room to work in.
+// no edge is passed over. The colours and the path are room to work in. A colour stays a byte and is no enum, since any byte is promised something.
 pub fn has_cycle_within(
-    starts: &[u32],
-    targets: &[u32],
+    rows: &Rows,
     colours: &mut [u8],
-    path: &mut [u16],
-    places: &mut [u16],
+    path: &mut [Turn],
     from: usize,
     to: u32,
 ) -> bool
-    requires { Prepared starts.now targets.now colours.old path.old places.old }
-    ensures { Says result (Cyclic (Followed starts.now targets.now colours.old from to)) }
+    requires { Prepared rows.now.starts rows.now.targets colours.old path.old }
+    ensures { Says result (Cyclic (Followed rows.now.starts rows.now.targets colours.old from to)) }
 {
-    let n = starts.len() - 1;
-    let mut v = 0;
-    while v < n {
-        if visit(starts, targets, colours, path, places, v, from, to) {
+    for v in 0..rows.vertices() {
+        if visit(rows, colours, path, v, from, to) {
             return true;
         }
-        v += 1;
     }
     false
 }
 
 // Whether the table has a directed cycle. A self-loop is one.
-pub fn has_cycle(starts: &[u32], targets: &[u32], colours: &mut [u8; VERTEX_LIMIT]) -> bool
-    requires { Testable starts.now targets.now colours.old }
-    ensures { Says result (Cyclic (Edge starts.now targets.now)) }
+pub fn has_cycle(rows: &Rows, colours: &mut [u8; VERTEX_LIMIT]) -> bool
+    requires { Testable rows.now.starts rows.now.targets colours.old }
+    ensures { Says result (Cyclic (edges rows.now)) }
 {
-    let n = starts.len() - 1;
+    let n = rows.vertices();
     clear(colours, n);
-    let mut path = [0u16; VERTEX_LIMIT];
-    let mut places = [0u16; VERTEX_LIMIT];
-    has_cycle_within(starts, targets, colours, &mut path, &mut places, n, 0)
+    let mut path = [Turn {
+        vertex: 0,
+        place: 0,
+    }; VERTEX_LIMIT];
+    has_cycle_within(rows, colours, &mut path, n, 0)
 }

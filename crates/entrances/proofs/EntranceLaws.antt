@@ -1,15 +1,9 @@
 -- One turn of the loop: the entrance is passed, the budget is spent, or the candidate is searched and folded. For every lawful way. Assumes nothing.
-use Prim.Native.Nat.{ℕ, ◌+◌, ◌<◌}
-use mathlib.Core.Path.{◌≡◌, ◌∙◌}
-use mathlib.Core.Logic.{inl, inr}
-use mathlib.Core.List.{List}
-use native.Mathlib.Omega.{arith}
-use native.Mathlib.Decide.{dec_lt}
-use lib.ListN.{length, get_or, take}
+use Rattle.std.proofs.Common.{Some, None, ℕ, ◌+◌, ◌≤◌, ◌<◌, ◌≡◌, ◌∙◌, ◌⊎◌, List, arith, length, get_or, take}
 use Rattle.table.specs.Table.{Table, size, edges, SoundTable}
 use Rattle.bubble.proofs.Unique.{exit_unique}
-use Rattle.search.specs.declared.Exit.TheVariants.{At, Nothing}
-use Rattle.search.specs.Search.{Searchable, Sought, Visited}
+use Rattle.search.specs.declared.Exit.{Exit}
+use Rattle.search.specs.Search.{Sought, Visited}
 use Rattle.rule.specs.Lists.{Graph, CandidateSet}
 use Rattle.rule.specs.Fold.{Rule}
 use Rattle.rule.specs.Way.{Way}
@@ -17,8 +11,8 @@ use Rattle.rule.specs.Laws.{CandidateLaws, WayLaws}
 use Rattle.kept.specs.Keeping.{Keepable, KeptDone}
 use Rattle.kept.proofs.OrderLaws.{visited_front}
 use Rattle.entrances.specs.Turns.{Turning}
-use Rattle.entrances.specs.Steps.{Room, CandidateAt, EntranceFolded, NextEntrance}
-use Rattle.entrances.proofs.TurnLaws.{turns_to, turns_more}
+use Rattle.entrances.specs.Steps.{Room, CandidateAt, EntranceFolded}
+use Rattle.entrances.proofs.TurnLaws.{turns_on, turns_more}
 
 -- one candidate
 module _ {G : Graph → Type 0} {C : CandidateSet} (L : CandidateLaws G C) {table : Table} {parents pending order best next out : List ℕ} {s : ℕ}
@@ -26,22 +20,18 @@ module _ {G : Graph → Type 0} {C : CandidateSet} (L : CandidateLaws G C) {tabl
   open table use {rows}
   open rows use {starts, targets}
 
-  pub entrance_searchable : Searchable starts targets parents pending order s
-  entrance_searchable =
-      record {
-        well_formed = room.counted.well_formed;
-        vertex = here.vertex;
-        counted = room.parents_counted;
-        whole = room.whole;
-        room = room.order_room;
-      }
-
   module _ {pending' order' : List ℕ} where
     -- a candidate has an exit
-    pub entrance_found : Sought starts targets pending order pending' order' s Nothing → ⊥
+    pub entrance_found : Sought starts targets pending order pending' order' s None → ⊥
     entrance_found sought = let (t, c) = here.entrance in sought.searched t (L.superbubble c)
 
-    module _ {t k : ℕ} (sought : Sought starts targets pending order pending' order' s (At t k)) where
+    module _ {exit : Exit} (sought : Sought starts targets pending order pending' order' s (Some exit)) where
+      abbrev t : ℕ
+      t = exit.vertex
+
+      abbrev k : ℕ
+      k = exit.visited
+
       candidate : C (edges rows) s t
       candidate = let (x, c) = here.entrance in
           let e : t ≡ x = exit_unique sought.searched.superbubble (L.superbubble c) in rw e c
@@ -85,14 +75,14 @@ module _ {G : Graph → Type 0} {C : CandidateSet} (L : CandidateLaws G C) {tabl
 
 -- all of them
 module _ {way : Way} {table : Table} {exits next out : List ℕ} {budget s folded : ℕ} (turning : Turning way table exits next out budget s folded) where
-  -- those up to the next one that is folded are passed
-  pub turning_to : {more r : ℕ} → NextEntrance exits s more r → (folded < budget → 0 < more) → Turning way table exits next out budget r folded
-  turning_to {r = r} after unspent =
+  -- s is the entrance of no candidate, or the budget is spent
+  pub turning_on : s < length exits → (length exits ≤ get_or exits s 0) ⊎ (budget ≤ folded) → Turning way table exits next out budget (s + 1) folded
+  turning_on h none =
       record {
         kind = turning.kind;
         candidates = turning.candidates;
-        passed = omega (arith, after.inside, turning.candidates.each);
-        turns = turns_to turning.turns r after.later (λ v a b. elim (dec_lt folded budget) [ yes l ↦ inl (after.skipped (unspent l) v a b) | no n ↦ inr (omega arith) ]);
+        passed = omega (arith, turning.candidates.each);
+        turns = turns_on turning.turns none;
       }
 
   module _ (laws : WayLaws way) (ok : SoundTable table) (inside : s < length exits) (here : get_or exits s 0 < length exits) where

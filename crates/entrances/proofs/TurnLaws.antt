@@ -1,13 +1,10 @@
 -- The loop over the entrances: what holds after each of them, where the first candidates, as many as the budget, are folded. For every lawful way. Assumes nothing.
-use Prim.Native.Nat.{ℕ, zero, suc, ◌+◌, ◌≤◌, ◌<◌}
-use mathlib.Core.Path.{◌≡◌, refl, sym, ap, ◌∙◌}
-use mathlib.Core.Logic.{◌⊎◌, inl, inr, ⊎_elim}
-use mathlib.Core.List.{List, [], ◌∷◌, ◌++◌, map-append, Memᴰ}
-use native.Mathlib.Numerals.{add-one}
+use Rattle.std.proofs.Common.{ℕ, zero, suc, ◌+◌, ◌≤◌, ◌<◌, ◌≡◌, refl, sym, ap, ◌∙◌, ◌⊎◌, List, [], ◌∷◌, ◌++◌}
+use Rattle.std.proofs.Common.{inl, inr, ⊎_elim, arith, length, get_or, take, length-take, length-append, drop, take-append-drop, take_all}
+use mathlib.Core.List.{map-append, Memᴰ}
 use native.Mathlib.Decide.{ℕ_discrete, dec_lt}
-use native.Mathlib.Omega.{arith}
-use lib.ListN.{length, get_or, take, length-take, length-append, length-map, drop, take-append-drop}
-use lib.Seq.{take_all, take-append-le}
+use lib.ListN.{length-map}
+use lib.Seq.{take-append-le}
 use Rattle.table.specs.Table.{Table, size, edges, SoundTable}
 use Rattle.table.proofs.RowLaws.{edges_below}
 use Rattle.bubble.specs.Superbubble.{F, Interior}
@@ -55,29 +52,15 @@ turns_none exits budget whole same =
     take_nothing zero = refl
     take_nothing (suc b) = refl
 
--- one vertex more that is the entrance of no candidate, or behind a spent budget
-front_on : (exits : List ℕ) (budget s r : ℕ) → take budget (entrances_below exits r) ≡ take budget (entrances_below exits s)
-    → (length exits ≤ get_or exits r 0) ⊎ (budget ≤ length (entrances_below exits s)) → take budget (entrances_below exits (r + 1)) ≡ take budget (entrances_below exits r)
-front_on exits budget s r before h =
-    elim (dec_lt (get_or exits r 0) (length exits)) [
-      | no n ↦ ap (take budget) (entrance_none exits r (omega arith))
+-- one vertex more that is the entrance of no candidate, or behind a spent budget: the first of them stay the same
+front_on : (exits : List ℕ) (budget s : ℕ) → (length exits ≤ get_or exits s 0) ⊎ (budget ≤ length (entrances_below exits s))
+    → take budget (entrances_below exits (s + 1)) ≡ take budget (entrances_below exits s)
+front_on exits budget s h =
+    elim (dec_lt (get_or exits s 0) (length exits)) [
+      | no n ↦ ap (take budget) (entrance_none exits s (omega arith))
       | yes k ↦
           let spent : budget ≤ length (entrances_below exits s) = ⊎_elim (λ l. absurd (let no : ⊥ = omega arith in no)) (λ l. l) h in
-          let long : budget ≤ length (entrances_below exits r) =
-          omega (arith, ap length before, length-take budget (entrances_below exits r), length-take budget (entrances_below exits s)) in
-          ap (take budget) (entrance_more exits r k) ∙ take-append-le budget (entrances_below exits r) (r ∷ []) long
-    ]
-
--- where those up to r are the entrances of no candidates, or the budget is spent, the first of them stay the same
-front_to : (exits : List ℕ) (budget s r : ℕ) → s ≤ r → ((v : ℕ) → s ≤ v → v < r → (length exits ≤ get_or exits v 0) ⊎ (budget ≤ length (entrances_below exits s)))
-    → take budget (entrances_below exits r) ≡ take budget (entrances_below exits s)
-front_to exits budget s zero h each = let q : s ≡ 0 = omega arith in ap (λ (x : ℕ). take budget (entrances_below exits x)) (sym q)
-front_to exits budget s (suc r) h each =
-    elim (ℕ_discrete s (suc r)) [
-      | yes q ↦ ap (λ (x : ℕ). take budget (entrances_below exits x)) (sym q)
-      | no n ↦
-          let before = front_to exits budget s r (omega arith) (λ v a b. each v a (omega arith)) in
-          ap (λ (x : ℕ). take budget (entrances_below exits x)) (sym (add-one r)) ∙ front_on exits budget s r before (each r (omega arith) (omega arith)) ∙ before
+          ap (take budget) (entrance_more exits s k) ∙ take-append-le budget (entrances_below exits s) (s ∷ []) spent
     ]
 
 module _ {way : Way} {table : Table} {exits next out : List ℕ} {budget s folded : ℕ} (turns : Turns way table exits next out budget s folded) where
@@ -85,13 +68,13 @@ module _ {way : Way} {table : Table} {exits next out : List ℕ} {budget s folde
   pub folded_number : folded ≡ length (take budget (entrances_below exits s))
   folded_number = turns.how_many ∙ sym (length-map turns.items (λ (i : Item). i.entrance)) ∙ ap length turns.first
 
-  -- those up to r are the entrances of no candidates, or the budget is spent
-  pub turns_to : (r : ℕ) → s ≤ r → ((v : ℕ) → s ≤ v → v < r → (length exits ≤ get_or exits v 0) ⊎ (budget ≤ folded)) → Turns way table exits next out budget r folded
-  turns_to r h each =
+  -- s is the entrance of no candidate, or the budget is spent
+  pub turns_on : (length exits ≤ get_or exits s 0) ⊎ (budget ≤ folded) → Turns way table exits next out budget (s + 1) folded
+  turns_on h =
       let spent : budget ≤ folded → budget ≤ length (entrances_below exits s) = λ l. omega (arith, folded_number, length-take budget (entrances_below exits s)) in
       record {
         items = turns.items;
-        first = turns.first ∙ sym (front_to exits budget s r h (λ v a b. ⊎_elim inl (λ l. inr (spent l)) (each v a b)));
+        first = turns.first ∙ sym (front_on exits budget s (⊎_elim inl (λ l. inr (spent l)) h));
         how_many = turns.how_many;
         fit = turns.fit;
         numbered = turns.numbered;

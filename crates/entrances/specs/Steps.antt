@@ -1,11 +1,10 @@
 -- What the steps over the entrances state between themselves. Assumes nothing.
-use Rattle.std.specs.Prelude.{ℕ, ◌≤◌, ◌<◌, ◌≡◌, List, length, get_or}
+use Rattle.std.specs.Prelude.{ℕ, ◌≤◌, ◌<◌, ◌≡◌, List, length}
 use Rattle.table.specs.Table.{Table, size, edges, SoundTable}
 use Rattle.parents.specs.Parents.{Parents}
 use Rattle.search.specs.Search.{Visited}
 use Rattle.rule.specs.Lists.{CandidateSet}
 use Rattle.rule.specs.Fold.{Rule, Entrance}
-use Rattle.candidates.specs.Candidates.{no_exit}
 use Rattle.kept.specs.Keeping.{KeptDone}
 
 -- what the search and the keeping of paths take: a table with its counts, the parents' counts, once to read and once to work on, and room for each vertex
@@ -31,10 +30,3 @@ pub record EntranceFolded (C : CandidateSet) (R : Rule) (table : Table) (s : ℕ
   pub order : Visited table.rows.starts table.rows.targets order' s exit visited
   pub kept : KeptDone C R table s exit best next out best' next' out'
   pub room : Room table parents pending' order' best' next' out'
-
--- r is the next entrance from a vertex on that has an exit, or n where there is none, or where no more are to be folded
-pub record NextEntrance (exits : List ℕ) (from more r : ℕ) : Type 0 where
-  pub inside : r ≤ length exits
-  pub later : from ≤ r
-  pub skipped : 0 < more → (v : ℕ) → from ≤ v → v < r → no_exit (length exits) ≤ get_or exits v 0
-  pub entrance : r < length exits → (get_or exits r 0 < no_exit (length exits)) × (0 < more)

@@ -1,21 +1,19 @@
 // The loop over the entrances: each candidate within the budget is searched again and folded.
 #![tactic(auto)]
 
-ghost use Rattle.std.specs.Prelude.{◌≤◌, length};
-ghost use Rattle.table.specs.Table.{vertices};
+ghost use Rattle.table.specs.Table.{size};
 ghost use Rattle.rule.specs.Way.{the_fold};
 ghost use Rattle.entrances.specs.Turns.{Turning};
-ghost use Rattle.entrances.specs.Steps.{Room, CandidateAt, EntranceFolded, NextEntrance};
+ghost use Rattle.entrances.specs.Steps.{Room, CandidateAt, EntranceFolded};
 
 use rule::Mode;
-use search::{Exit, search};
+use search::search;
+use table::Table;
 
 // Folds the candidate with the entrance s.
 fn fold_at(
     mode: Mode,
-    starts: &[u32],
-    targets: &[u32],
-    counts: &[u64],
+    table: &Table,
     parents: &[u32],
     pending: &mut [u32],
     order: &mut [u32],
@@ -24,22 +22,12 @@ fn fold_at(
     out: &mut [u64],
     s: usize,
 )
-    requires room { Room
-        (record { rows = record { starts = starts.now; targets = targets.now }; counts = counts.now })
-        parents.now
-        pending.old
-        order.old
-        best.old
-        next.old
-        out.old }
-    requires candidate_at { CandidateAt
-        (the_fold mode).candidates
-        (record { rows = record { starts = starts.now; targets = targets.now }; counts = counts.now })
-        s }
+    requires room { Room table.now parents.now pending.old order.old best.old next.old out.old }
+    requires candidate_at { CandidateAt (the_fold mode).candidates table.now s }
     ensures { EntranceFolded
         (the_fold mode).candidates
         (the_fold mode).rule
-        (record { rows = record { starts = starts.now; targets = targets.now }; counts = counts.now })
+        table.now
         s
         parents.now
         best.old
@@ -51,48 +39,25 @@ fn fold_at(
         next.new
         out.new }
 {
-    let exit = search(starts, targets, parents, pending, order, s as u32);
-    let Exit::At(t, k) = exit else {
+    let found = search(&table.rows, parents, pending, order, s as u32);
+    let Some(exit) = found else {
         return;
     };
     kept::keep(
         mode,
-        starts,
-        targets,
-        counts,
-        &order[..k],
-        t,
+        table,
+        &order[..exit.visited],
+        exit.vertex,
         best,
         next,
         out,
     );
 }
 
-// The next entrance from a vertex on that has an exit, or n where there is none, or where no more are to be folded.
-fn next_entrance(exits: &[u32], from: usize, more: usize) -> usize
-    requires { from ≤ length exits.now }
-    ensures { NextEntrance exits.now from more result }
-{
-    let none = exits.len();
-    if more == 0 {
-        return none;
-    }
-    let mut s = from;
-    while s < exits.len() {
-        if (exits[s] as usize) < none {
-            return s;
-        }
-        s += 1;
-    }
-    s
-}
-
-// Goes over all entrances; answers how many are folded.
+// Goes over all entrances; answers how many are folded. A vertex whose exit is n is the entrance of no candidate.
 pub fn fold_all(
     mode: Mode,
-    starts: &[u32],
-    targets: &[u32],
-    counts: &[u64],
+    table: &Table,
     parents: &[u32],
     pending: &mut [u32],
     order: &mut [u32],
@@ -102,41 +67,24 @@ pub fn fold_all(
     out: &mut [u64],
     budget: usize,
 ) -> usize
-    requires room { Room
-        (record { rows = record { starts = starts.now; targets = targets.now }; counts = counts.now })
-        parents.now
-        pending.old
-        order.old
-        best.old
-        next.old
-        out.old }
-    requires turning { Turning
-        (the_fold mode)
-        (record { rows = record { starts = starts.now; targets = targets.now }; counts = counts.now })
-        exits.now
-        next.old
-        out.old
-        budget
-        0
-        0 }
+    requires room { Room table.now parents.now pending.old order.old best.old next.old out.old }
+    requires turning { Turning (the_fold mode) table.now exits.now next.old out.old budget 0 0 }
     ensures { Turning
         (the_fold mode)
-        (record { rows = record { starts = starts.now; targets = targets.now }; counts = counts.now })
+        table.now
         exits.now
         next.new
         out.new
         budget
-        (vertices starts.now)
+        (size table.now.rows)
         result }
 {
     let mut folded = 0;
-    let mut s = next_entrance(exits, 0, budget);
-    while s < exits.len() {
-        fold_at(
-            mode, starts, targets, counts, parents, pending, order, best, next, out, s,
-        );
-        folded += 1;
-        s = next_entrance(exits, s + 1, budget - folded);
+    for (s, exit) in exits.iter().enumerate() {
+        if (*exit as usize) < exits.len() && folded < budget {
+            fold_at(mode, table, parents, pending, order, best, next, out, s);
+            folded += 1;
+        }
     }
     folded
 }

@@ -11,6 +11,7 @@ mod replacing;
 mod streams;
 mod writing;
 
-pub use reading::{Input, read, read_file};
-pub use replacing::{Replaced, replace};
+pub use errors::ReplaceError;
+pub use reading::{read, read_file};
+pub use replacing::replace;
 pub use streams::fill_closed;

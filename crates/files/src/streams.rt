@@ -1,5 +1,4 @@
 // The standard streams.
-use crate::errors::last;
 use attributes::errors::EBADF;
 use std::fs::{File, Files};
 use std::io;
@@ -22,18 +21,15 @@ where
 }
 
 // Fills those of standard input, output and error that are closed, so that no file opened later gets their number and is written to by a message.
-// A write to one that was filled fails, as to a closed one. Answers 0, or the error.
-pub fn fill_closed<R: Files>(files: &R) -> i32
+// A write to one that was filled fails, as to a closed one.
+pub fn fill_closed<R: Files>(files: &R) -> io::Result<()>
 where
     R::File: AsRawFd + IntoRawFd,
 {
-    let mut turns: u32 = 4;
-    while turns > 0 {
-        match fill_next(files) {
-            Err(error) => return last(&error),
-            Ok(fd) if fd > STDERR_FILENO => return 0,
-            Ok(_) => turns -= 1,
+    for _ in 0..4 {
+        if fill_next(files)? > STDERR_FILENO {
+            return Ok(());
         }
     }
-    EBADF
+    Err(io::Error::from_raw_os_error(EBADF))
 }

@@ -1,10 +1,5 @@
 -- The line of a fold put word by word, and what fold delivers: of a well-formed table with its lengths, and of what an image holds, in every lawful way. Assumes nothing.
-use Prim.Native.Nat.{ℕ, ◌+◌, ◌-◌, ◌≤◌}
-use mathlib.Core.Path.{◌≡◌, refl, sym, ap, subst, ◌∙◌}
-use mathlib.Core.List.{List, [], ◌∷◌}
-use native.Mathlib.Omega.{arith}
-use lib.ListN.{length, drop, length-append}
-use lib.Seq.{length-take-le}
+use Rattle.std.proofs.Common.{ℕ, ◌+◌, ◌-◌, ◌≤◌, ◌≡◌, refl, sym, ap, subst, ◌∙◌, List, [], ◌∷◌, arith, length, drop, length-append, length-take-le}
 use Rattle.table.specs.Verdict.{Demand, Verdict}
 use Rattle.table.specs.Table.{Table, size, SoundTable}
 use Rattle.table.specs.Numbers.{counted_demands}
@@ -16,23 +11,19 @@ use Rattle.layout.specs.Lengths.{length_count}
 use Rattle.layout.specs.Image.{Contents, SoundContents, largest_image, image_of, version_of, table_of, contents_of}
 use Rattle.layout.proofs.ImageLaws.{image_length_lem}
 use Rattle.layout.proofs.Limits.{length_most}
-use Rattle.image.specs.declared.header.Sizes.{Sizes}
-use Rattle.image.specs.Looking.{image_demands, Looked}
+use Rattle.image.specs.Looking.{Seen, image_demands, Looked}
 use Rattle.image.proofs.LookLaws.{looked_met}
-use Rattle.writing.specs.declared.Extent.{Extent}
-use Rattle.writing.specs.Writing.{Written}
+use Rattle.writing.specs.Writing.{Extent, Written}
 use Rattle.writing.proofs.WriteLaws.{contents_written}
 use Rattle.rule.specs.Way.{Way}
 use Rattle.rule.specs.Laws.{WayLaws}
 use Rattle.rule.specs.Tables.{TableFolded}
-use Rattle.folding.specs.declared.folds.Folded.{Folded}
-use Rattle.folding.specs.Folding.{fold_room, FoldDone}
+use Rattle.folding.specs.Folding.{Outcome, fold_room, FoldDone}
 use Rattle.folding.proofs.Demand.{left_accepted}
 use Rattle.texts.specs.Text.{Line, bytes, decimal, text, refusal_lines, fold_lines}
 use Rattle.printing.specs.Put.{AtFront, Put}
 use Rattle.printing.proofs.PutLaws.{put_nothing, put_first, put_next, put_then, put_text, at_front}
-use Rattle.fold_bytes.specs.declared.Answers.{Answers}
-use Rattle.fold_bytes.specs.Image.{FoldDelivered, FoldAnswer}
+use Rattle.fold_bytes.specs.Image.{Delivered, FoldDelivered, FoldAnswer}
 
 -- ---- The line.
 
@@ -58,7 +49,7 @@ put_folded folded left edges word number word-left number-left word-edges number
 -- ---- A refusal.
 
 -- the line of a refusal, and nothing is written
-pub refusal_delivers : {way : Way} {demands : List Demand} {version : ℕ} {contents : Contents} {budget : ℕ} {out out' new : List ℕ} {answers : Answers} {number : ℕ}
+pub refusal_delivers : {way : Way} {demands : List Demand} {version : ℕ} {contents : Contents} {budget : ℕ} {out out' new : List ℕ} {answers : Delivered} {number : ℕ}
     → (number ≡ 0 → ⊥) → Verdict demands number
     → (answers.number ≡ number) × (answers.image ≡ 0) × AtFront (text (refusal_lines number)) out out' answers.line
     → FoldDelivered way demands version contents budget out out' new new answers
@@ -76,7 +67,7 @@ refusal_delivers {new = new} {number = number} refusal verdict (same, none, at) 
 -- ---- The fold of a well-formed table.
 
 -- with room, only what the way asks can refuse it
-pub way_decides : {way : Way} {table : Table} {budget : ℕ} {lent after : Table} {answer : Folded} → SoundTable table → (fold_room table lent).met
+pub way_decides : {way : Way} {table : Table} {budget : ℕ} {lent after : Table} {answer : Outcome} → SoundTable table → (fold_room table lent).met
     → FoldDone way table budget lent after answer → Verdict (way.asked table.rows) answer.number
 way_decides {way} {table} {lent = lent} {answer = answer} ok room done =
     let asked = way.asked table.rows in
@@ -84,7 +75,7 @@ way_decides {way} {table} {lent = lent} {answer = answer} ok room done =
     (met_are_passed (counted_demands table) (fold_room table lent ∷ asked) answer.number (counted_meets table ok) done.verdict)
 
 -- the arrays that an accepted fold was written to: the new table stands at their fronts, well-formed
-pub record LeftTable (way : Way) (table : Table) (budget : ℕ) (after : Table) (answer : Folded) : Type 0 where
+pub record LeftTable (way : Way) (table : Table) (budget : ℕ) (after : Table) (answer : Outcome) : Type 0 where
   pub verdict : Verdict (way.asked table.rows) 0
   pub starts_within : size table.rows + 1 ≤ length after.rows.starts
   pub targets_within : answer.edges ≤ length after.rows.targets
@@ -93,7 +84,7 @@ pub record LeftTable (way : Way) (table : Table) (budget : ℕ) (after : Table) 
   pub sound : SoundTable (fronts (size table.rows) answer.edges after)
 
 -- an accepted fold leaves them so
-pub fold_leaves : {way : Way} {table : Table} {budget : ℕ} {lent after : Table} {answer : Folded} → WayLaws way → SoundTable table → (fold_room table lent).met
+pub fold_leaves : {way : Way} {table : Table} {budget : ℕ} {lent after : Table} {answer : Outcome} → WayLaws way → SoundTable table → (fold_room table lent).met
     → FoldDone way table budget lent after answer → answer.number ≡ 0 → LeftTable way table budget after answer
 fold_leaves {way} {table} {budget} {lent} {after} {answer} laws ok room done e =
     let n = size table.rows in
@@ -121,11 +112,16 @@ fold_leaves {way} {table} {budget} {lent} {after} {answer} laws ok room done e =
 -- ---- The line and the image of the new table.
 
 -- the new table with the lengths as they were
-abbrev pub new_contents : Contents → Table → Folded → Contents
+abbrev pub new_contents : Contents → Table → Outcome → Contents
 new_contents contents after answer = record { table = fronts (size contents.table.rows) answer.edges after; lengths = contents.lengths }
 
+-- the same by another n, and by other lengths, that are theirs
+pub same_contents : (contents : Contents) (after : Table) (answer : Outcome) {n : ℕ} {lengths : List ℕ} → n ≡ size contents.table.rows → lengths ≡ contents.lengths
+    → record { table = fronts n answer.edges after; lengths = lengths } ≡ new_contents contents after answer
+same_contents contents after answer same_n same_lengths = λ i. record { table = fronts (same_n i) answer.edges after; lengths = same_lengths i }
+
 -- they are sound
-pub new_sound : {way : Way} {version : ℕ} {contents : Contents} {budget : ℕ} {after : Table} {answer : Folded} → SoundContents version contents
+pub new_sound : {way : Way} {version : ℕ} {contents : Contents} {budget : ℕ} {after : Table} {answer : Outcome} → SoundContents version contents
     → LeftTable way contents.table budget after answer → SoundContents version (new_contents contents after answer)
 new_sound {version = version} sound left =
     record {
@@ -147,7 +143,7 @@ image_at_front {version} {contents} {new} {extent = extent} sound long written =
     record { long = length-is ∙ sym (image_length_lem version contents sound.counted sound.length_each); whole = whole }
 
 -- what an accepted fold delivers
-pub fold_delivers : {way : Way} {version : ℕ} {contents : Contents} {budget : ℕ} {after : Table} {answer : Folded} {out out' new new' : List ℕ} {answers : Answers}
+pub fold_delivers : {way : Way} {version : ℕ} {contents : Contents} {budget : ℕ} {after : Table} {answer : Outcome} {out out' new new' : List ℕ} {answers : Delivered}
     → LeftTable way contents.table budget after answer → answers.number ≡ 0
     → AtFront (text (fold_lines answer.folded answer.left answer.edges)) out out' answers.line
     → AtFront (image_of version (new_contents contents after answer)) new new' answers.image
@@ -175,7 +171,7 @@ fold_delivers {version = version} {contents} {after = after} {answer} left none 
 -- ---- From the bytes of an image.
 
 -- the line of the refusal of an image
-pub image_refused : (ways : ℕ → Way) {image : List ℕ} {budget : ℕ} {sizes : Sizes} {out out' new : List ℕ} {answers : Answers} → Looked image sizes
+pub image_refused : (ways : ℕ → Way) {image : List ℕ} {budget : ℕ} {sizes : Seen} {out out' new : List ℕ} {answers : Delivered} → Looked image sizes
     → (sizes.number ≡ 0 → ⊥)
     → (answers.number ≡ sizes.number) × (answers.image ≡ 0) × AtFront (text (refusal_lines sizes.number)) out out' answers.line
     → FoldAnswer ways image budget out out' new new answers
@@ -183,7 +179,7 @@ image_refused ways {image} {sizes = sizes} looked refusal =
     refusal_delivers refusal (stops (image_demands image) ((ways (version_of image)).asked (table_of image).rows) sizes.number refusal looked.verdict)
 
 -- what is delivered of the contents of an image that look accepts
-pub image_folded : (ways : ℕ → Way) {image : List ℕ} {sizes : Sizes} {version : ℕ} (contents : Contents) {budget : ℕ} {out out' new new' : List ℕ} {answers : Answers}
+pub image_folded : (ways : ℕ → Way) {image : List ℕ} {sizes : Seen} {version : ℕ} (contents : Contents) {budget : ℕ} {out out' new new' : List ℕ} {answers : Delivered}
     → Looked image sizes → sizes.number ≡ 0 → version ≡ version_of image → contents ≡ contents_of image
     → FoldDelivered (ways version) ((ways version).asked contents.table.rows) version contents budget out out' new new' answers
     → FoldAnswer ways image budget out out' new new' answers

@@ -11,9 +11,19 @@ use Rattle.rule.specs.declared.Choosing.TheVariants.{Sum, Weakest}
 use Rattle.rule.specs.declared.Rings.{Rings}
 use Rattle.rule.specs.Way.{Way, the_fold}
 use Rattle.rule.specs.Tables.{TableFolded}
+use Rattle.printing.specs.Answered.{number_given}
 use Rattle.texts.specs.Text.{text, refusal_lines, fold_lines}
 use Rattle.printing.specs.Put.{AtFront}
 use Rattle.fold_bytes.specs.declared.Answers.{Answers}
+
+-- an answer by its number, and how long the line and the new image are
+pub record Delivered : Type 0 where
+  pub number : ℕ
+  pub line : ℕ
+  pub image : ℕ
+
+abbrev pub delivered_of : Answers → Delivered
+delivered_of answers = record { number = number_given answers.refusal; line = answers.line; image = answers.image }
 
 -- by which rule an image of a version is folded
 abbrev pub choosing_of : ℕ → Choosing
@@ -35,7 +45,7 @@ pub record FoldBytes (way : Way) (version : ℕ) (contents : Contents) (budget :
 
 -- the number is that of the first demand that is not met; the line of a fold and the image of the new table, or the line of a refusal and nothing, stand at the fronts of
 -- the two buffers, before and after. Neither depends on whether the other can be written
-pub record FoldDelivered (way : Way) (demands : List Demand) (version : ℕ) (contents : Contents) (budget : ℕ) (out out' new new' : List ℕ) (answers : Answers)
+pub record FoldDelivered (way : Way) (demands : List Demand) (version : ℕ) (contents : Contents) (budget : ℕ) (out out' new new' : List ℕ) (answers : Delivered)
     : Type 0 where
   pub printed : List ℕ
   pub written : List ℕ
@@ -46,10 +56,10 @@ pub record FoldDelivered (way : Way) (demands : List Demand) (version : ℕ) (co
   pub image_front : AtFront written new new' answers.image
 
 -- of what stands in an image, by the way of its version
-abbrev pub FoldAnswer : (ℕ → Way) → List ℕ → ℕ → List ℕ → List ℕ → List ℕ → List ℕ → Answers → Type 0
+abbrev pub FoldAnswer : (ℕ → Way) → List ℕ → ℕ → List ℕ → List ℕ → List ℕ → List ℕ → Delivered → Type 0
 FoldAnswer ways image =
     FoldDelivered (ways (version_of image)) (image_demands image ++ (ways (version_of image)).asked (table_of image).rows) (version_of image) (contents_of image)
 
 -- by the folds of docs/RULES.md
-abbrev pub TheFoldAnswer : Rings → List ℕ → ℕ → List ℕ → List ℕ → List ℕ → List ℕ → Answers → Type 0
+abbrev pub TheFoldAnswer : Rings → List ℕ → ℕ → List ℕ → List ℕ → List ℕ → List ℕ → Delivered → Type 0
 TheFoldAnswer rings = FoldAnswer (fold_of rings)

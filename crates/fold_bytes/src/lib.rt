@@ -3,27 +3,30 @@
 
 ghost use Rattle.std.specs.Prelude.{◌≡◌};
 ghost use Rattle.io.specs.Counts.{IsPrefixLen};
-ghost use Rattle.layout.specs.Image.{SoundContents};
+ghost use Rattle.table.specs.Refusals.{number};
+ghost use Rattle.layout.specs.Image.{SoundContents, image_of};
 ghost use Rattle.texts.specs.Text.{text, refusal_lines, fold_lines};
 ghost use Rattle.printing.specs.Put.{AtFront};
-ghost use Rattle.fold_bytes.specs.Image.{choosing_of, fold_of, FoldDelivered, TheFoldAnswer};
+ghost use Rattle.fold_bytes.specs.Image.{delivered_of, choosing_of, fold_of, FoldDelivered, TheFoldAnswer};
 
-use layout::Header;
+use layout::{Contents, Header};
 use rule::{Choosing, Mode, Rings};
-use table::{EDGE_LIMIT, START_LIMIT, VERTEX_LIMIT};
+use table::{Refusal, Rows, Table};
+use taking::Arrays;
 
 // The length of the longest line: `folded`, `left` and `edges`, and three numbers of 64 bits.
 pub const LONGEST: usize = 81;
 
-// What a fold answers: the number of a refusal, or 0, and how many bytes of the line and of the new image stand at the fronts of their buffers.
+// What a fold answers: why it refuses, if it does, and how many bytes of the line and of the new image stand at the fronts of their buffers.
 #[derive(Clone, Copy)]
 pub struct Answers {
-    pub number: u32,
+    pub refusal: Option<Refusal>,
     pub line: usize,
     pub image: usize,
 }
 
 // Puts the line of a fold at the front: `folded F left L edges M`.
+#[tactic(auto, using(printing::proofs::Digits::twenty_digits))]
 fn put_fold(out: &mut [u8; LONGEST], folded: usize, left: usize, edges: usize) -> usize
     ensures { AtFront (text (fold_lines folded left edges)) out.old out.new result }
 {
@@ -37,14 +40,14 @@ fn put_fold(out: &mut [u8; LONGEST], folded: usize, left: usize, edges: usize) -
 }
 
 // Puts the line of a refusal. Nothing is to be written.
-fn refused(out: &mut [u8; LONGEST], number: u32) -> Answers
-    ensures { (result.number ≡ number)
-        × (result.image ≡ 0)
-        × AtFront (text (refusal_lines number)) out.old out.new result.line }
+fn refused(out: &mut [u8; LONGEST], refusal: Refusal) -> Answers
+    ensures { ((delivered_of result).number ≡ number refusal)
+        × ((delivered_of result).image ≡ 0)
+        × AtFront (text (refusal_lines (number refusal))) out.old out.new (delivered_of result).line }
 {
-    let answer = printing::refusal(out, number);
+    let answer = printing::refusal(out, refusal);
     Answers {
-        number: answer.number,
+        refusal: answer.refusal,
         line: answer.length,
         image: 0,
     }
@@ -60,114 +63,72 @@ fn choosing(version: u32) -> Choosing
     Choosing::Sum
 }
 
-// Folds a table by the rule of its version into the second set of arrays, and puts the line and the image of the new table with its lengths, or the line of a refusal.
+// Puts the image of a table with lengths at the front: with room for the largest image, sound contents are written.
+fn put_image<'a>(
+    new: &mut [u8; Header::LARGEST],
+    version: u32,
+    table: Table<'a>,
+    lengths: &'a [u16],
+) -> usize
+    requires { SoundContents version (record { table = table; lengths = lengths.now }) }
+    ensures { AtFront (image_of version (record { table = table.entry; lengths = lengths.now })) new.old new.new result }
+{
+    let contents = Contents { table, lengths };
+    writing::write_version(version, &contents, new).unwrap()
+}
+
+// Folds a table by the rule of its version into the next set of arrays, and puts the line and the image of the new table with its lengths, or the line of a refusal.
 fn fold_contents(
     rings: Rings,
     version: u32,
-    starts: &[u32],
-    targets: &[u32],
-    counts: &[u64],
-    lengths: &[u16],
+    contents: &Contents,
     budget: u32,
-    starts2: &mut [u32; START_LIMIT],
-    targets2: &mut [u32; EDGE_LIMIT],
-    counts2: &mut [u64; VERTEX_LIMIT],
+    next: &mut Arrays,
     out: &mut [u8; LONGEST],
     new: &mut [u8; Header::LARGEST],
 ) -> Answers
-    requires { SoundContents
-        version
-        (record {
-          table = record { rows = record { starts = starts.now; targets = targets.now }; counts = counts.now };
-          lengths = lengths.now;
-        }) }
+    requires { SoundContents version contents.now }
     ensures { FoldDelivered
         (fold_of rings version)
-        ((fold_of rings version).asked (record { starts = starts.now; targets = targets.now }))
+        ((fold_of rings version).asked contents.now.table.rows)
         version
-        (record {
-          table = record { rows = record { starts = starts.now; targets = targets.now }; counts = counts.now };
-          lengths = lengths.now;
-        })
+        contents.now
         budget
         out.old
         out.new
         new.old
         new.new
-        result }
+        (delivered_of result) }
 {
     let by = choosing(version);
     let mode = Mode { rings, by };
-    let folded = folding::fold_by(
-        mode, starts, targets, counts, budget, starts2, targets2, counts2,
-    );
-    if folded.number != 0 {
-        return refused(out, folded.number);
-    }
-    let n = starts.len() - 1;
-    let m = folded.edges;
-    let starts2: &[u32] = starts2;
-    let targets2: &[u32] = targets2;
-    let counts2: &[u64] = counts2;
-    let extent = writing::write_version(
-        version,
-        &starts2[..n + 1],
-        &targets2[..m],
-        &counts2[..n],
-        lengths,
-        new,
-    );
-    Answers {
-        number: 0,
-        line: put_fold(out, folded.folded, folded.left, m),
-        image: extent.length,
-    }
-}
-
-// Puts the line and the new image of an image that is folded, or the line of its refusal, with arrays to load it into and a second set for the new table.
-fn answer_with(
-    rings: Rings,
-    image: &[u8],
-    budget: u32,
-    starts: &mut [u32; START_LIMIT],
-    targets: &mut [u32; EDGE_LIMIT],
-    counts: &mut [u64; VERTEX_LIMIT],
-    lengths: &mut [u16; VERTEX_LIMIT],
-    starts2: &mut [u32; START_LIMIT],
-    targets2: &mut [u32; EDGE_LIMIT],
-    counts2: &mut [u64; VERTEX_LIMIT],
-    out: &mut [u8; LONGEST],
-    new: &mut [u8; Header::LARGEST],
-) -> Answers
-    ensures the_fold_answer { TheFoldAnswer rings image.now budget out.old out.new new.old new.new result }
-    ensures prefix_len { IsPrefixLen result.line out.new × IsPrefixLen result.image new.new }
-{
-    let sizes = taking::take_in(image, starts, targets, counts, lengths);
-    if sizes.number != 0 {
-        return refused(out, sizes.number);
-    }
-    let version = sizes.version;
-    let n = sizes.vertices;
-    let m = sizes.edges;
-    let k = Header::lengths(version, n);
-    let starts: &[u32] = starts;
-    let targets: &[u32] = targets;
-    let counts: &[u64] = counts;
-    let lengths: &[u16] = lengths;
-    fold_contents(
-        rings,
-        version,
-        &starts[..n + 1],
-        &targets[..m],
-        &counts[..n],
-        &lengths[..k],
+    let table = &contents.table;
+    let folded = match folding::fold_by(
+        mode,
+        table,
         budget,
-        starts2,
-        targets2,
-        counts2,
-        out,
-        new,
-    )
+        &mut next.starts,
+        &mut next.targets,
+        &mut next.counts,
+    ) {
+        Ok(folded) => folded,
+        Err(refusal) => return refused(out, refusal),
+    };
+    let n = table.rows.vertices();
+    let m = folded.edges;
+    let left = Table {
+        rows: Rows {
+            starts: &next.starts[..n + 1],
+            targets: &next.targets[..m],
+        },
+        counts: &next.counts[..n],
+    };
+    let written = put_image(new, version, left, contents.lengths);
+    Answers {
+        refusal: None,
+        line: put_fold(out, folded.folded, folded.left, m),
+        image: written,
+    }
 }
 
 // Puts what fold prints and writes of an image and a budget at the fronts of the buffers: the line and the new image, or `refused N` and nothing.
@@ -178,28 +139,21 @@ pub fn answer(
     out: &mut [u8; LONGEST],
     new: &mut [u8; Header::LARGEST],
 ) -> Answers
-    ensures the_fold_answer { TheFoldAnswer rings image.now budget out.old out.new new.old new.new result }
+    ensures the_fold_answer { TheFoldAnswer rings image.now budget out.old out.new new.old new.new (delivered_of result) }
     ensures prefix_len { IsPrefixLen result.line out.new × IsPrefixLen result.image new.new }
 {
-    let mut starts = [0u32; START_LIMIT];
-    let mut targets = [0u32; EDGE_LIMIT];
-    let mut counts = [0u64; VERTEX_LIMIT];
-    let mut lengths = [0u16; VERTEX_LIMIT];
-    let mut starts2 = [0u32; START_LIMIT];
-    let mut targets2 = [0u32; EDGE_LIMIT];
-    let mut counts2 = [0u64; VERTEX_LIMIT];
-    answer_with(
-        rings,
-        image,
-        budget,
-        &mut starts,
-        &mut targets,
-        &mut counts,
-        &mut lengths,
-        &mut starts2,
-        &mut targets2,
-        &mut counts2,
-        out,
-        new,
-    )
+    let mut arrays = Arrays::new();
+    let mut next = Arrays::new();
+    match taking::take_in(image, &mut arrays) {
+        Ok(sizes) => fold_contents(
+            rings,
+            sizes.version,
+            &arrays.contents(sizes),
+            budget,
+            &mut next,
+            out,
+            new,
+        ),
+        Err(refusal) => refused(out, refusal),
+    }
 }

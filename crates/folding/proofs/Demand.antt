@@ -1,12 +1,7 @@
 -- Of all that the contract of fold allows, in every lawful way: two results coincide, and what a fold leaves is accepted by the next one. With `TableDemand` of
 -- `rule` this is demand 3. Assumes nothing.
-use Prim.Native.Nat.{ℕ, ◌+◌}
-use mathlib.Core.Path.{◌≡◌, sym, ap, ap₂, ◌∙◌}
-use mathlib.Core.Logic.{inr}
-use mathlib.Core.List.{◌∷◌, ◌++◌}
+use Rattle.std.proofs.Common.{ℕ, ◌+◌, ◌≡◌, sym, ap, ap₂, ◌∙◌, inr, ◌∷◌, ◌++◌, arith, length, drop}
 use native.Mathlib.Decide.{ℕ_discrete}
-use native.Mathlib.Omega.{arith}
-use lib.ListN.{length, drop}
 use Rattle.table.specs.Table.{Table, size, edges, SoundTable}
 use Rattle.table.specs.Numbers.{counted_demands}
 use Rattle.table.specs.Verdict.{AllMet}
@@ -17,12 +12,11 @@ use Rattle.rule.specs.Laws.{WayLaws}
 use Rattle.rule.specs.Tables.{TableFolded, TablesInTurn.once}
 use Rattle.rule.proofs.Budgets.{applied_kind}
 use Rattle.rule.proofs.TableDemand.{table_folds_coincide, count_sum_stays}
-use Rattle.folding.specs.declared.folds.Folded.{Folded}
-use Rattle.folding.specs.Folding.{fold_room, fold_demands, FoldDone}
+use Rattle.folding.specs.Folding.{Outcome, fold_room, fold_demands, FoldDone}
 
 module _ {way : Way} (laws : WayLaws way) {table : Table} {budget : ℕ} {lent : Table} where
   -- an accepted fold met all that was asked
-  fold_met : {after : Table} {answer : Folded} → FoldDone way table budget lent after answer → answer.number ≡ 0 → AllMet (fold_demands way table lent)
+  fold_met : {after : Table} {answer : Outcome} → FoldDone way table budget lent after answer → answer.number ≡ 0 → AllMet (fold_demands way table lent)
   fold_met done e =
       accepted (fold_demands way table lent) (
         (λ e. omega arith),
@@ -33,11 +27,11 @@ module _ {way : Way} (laws : WayLaws way) {table : Table} {budget : ℕ} {lent :
       )
       (rw e at done.verdict)
 
-  fold_kind : {after : Table} {answer : Folded} → FoldDone way table budget lent after answer → answer.number ≡ 0 → way.Kind (edges table.rows)
+  fold_kind : {after : Table} {answer : Outcome} → FoldDone way table budget lent after answer → answer.number ≡ 0 → way.Kind (edges table.rows)
   fold_kind done e = laws.asked_kind table.rows (fold_met done e).1.1.1.1.1.1.1.1
 
   -- two folds of one table by one budget, into slices that held the same, coincide: number, fields and all memory lent
-  pub fold_determined : {after₁ after₂ : Table} {answer₁ answer₂ : Folded} → FoldDone way table budget lent after₁ answer₁ → FoldDone way table budget lent after₂ answer₂
+  pub fold_determined : {after₁ after₂ : Table} {answer₁ answer₂ : Outcome} → FoldDone way table budget lent after₁ answer₁ → FoldDone way table budget lent after₂ answer₂
       → (answer₁ ≡ answer₂) × (after₁ ≡ after₂)
   fold_determined {after₁} {after₂} {answer₁} {answer₂} p q =
       let number : answer₁.number ≡ answer₂.number =
@@ -66,7 +60,7 @@ module _ {way : Way} (laws : WayLaws way) {table : Table} {budget : ℕ} {lent :
       ]
 
   -- a table with its counts that the way folds is folded, if there is room
-  pub fold_accepts : {after : Table} {answer : Folded} → SoundTable table → way.Kind (edges table.rows) → (fold_room table lent).met
+  pub fold_accepts : {after : Table} {answer : Outcome} → SoundTable table → way.Kind (edges table.rows) → (fold_room table lent).met
       → FoldDone way table budget lent after answer → answer.number ≡ 0
   fold_accepts {answer = answer} ok kind room done =
       verdict_unique (fold_demands way table lent) answer.number 0 done.verdict

@@ -1,13 +1,7 @@
 -- After the last entrance: the new table and counts are the table folded. For every lawful way. Assumes nothing.
-use Prim.Native.Nat.{ℕ, ◌+◌, ◌-◌, ◌≤◌, ◌<◌}
-use mathlib.Core.Path.{◌≡◌, refl, sym, ◌∙◌}
-use mathlib.Core.List.{List, ◌++◌}
-use native.Mathlib.Omega.{arith}
-use lib.ListN.{length, get_or, take, drop, length-drop, length-take}
-use lib.Seq.{length-take-le}
+use Rattle.std.proofs.Common.{ℕ, ◌+◌, ◌-◌, ◌≤◌, ◌<◌, ◌≡◌, refl, sym, ◌∙◌, List, ◌++◌, arith, length, get_or, drop, length-drop, length-take}
 use Rattle.table.specs.Table.{Rows, Table, size, edges, Sound, SoundTable}
 use Rattle.table.proofs.RowLaws.{edges_below}
-use Rattle.table.proofs.FrontLaws.{front_long}
 use Rattle.bubble.proofs.Number.{Below}
 use Rattle.rule.specs.Fold.{Applied}
 use Rattle.rule.specs.Way.{Way}
@@ -20,21 +14,9 @@ use Rattle.candidates.specs.Candidates.{entrances, entrances_below}
 use Rattle.candidates.proofs.FoundLaws.{entrances_listed}
 use Rattle.staying.specs.Staying.{EdgesStay, TableReady, TableWritten}
 use Rattle.turns.specs.declared.Turned.{Turned}
-use Rattle.turns.specs.Turns.{FoldReady, TurnDone}
+use Rattle.turns.specs.Turns.{TurnDone}
 use Rattle.entrances.proofs.TurnLaws.{folded_number}
 use Rattle.folding.specs.Folding.{FoldedAt}
-use Rattle.folding.specs.Steps.{FoldRoom}
-
--- the first n of the slices that have room are what the turns take
-pub room_ready : {way : Way} {table : Table} {next : List ℕ} {lent : Table} → FoldRoom way table next lent
-    → FoldReady way table (take (size table.rows) next) (take (size table.rows) lent.counts)
-room_ready {table = table} {next = next} {lent = lent} room =
-    record {
-      counted = room.counted;
-      kind = room.kind;
-      next_long = front_long table.rows.starts table.rows.targets next room.counted.well_formed room.next_long;
-      out_long = length-take-le (size table.rows) lent.counts room.room.2;
-    }
 
 module _ {way : Way} (laws : WayLaws way) {table : Table} (ok : SoundTable table) (kind : way.Kind (edges table.rows)) {budget : ℕ} {next out : List ℕ} {answer : Turned}
     (done : TurnDone way table budget next out answer) where

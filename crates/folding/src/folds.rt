@@ -1,54 +1,38 @@
 // The fold of a table: checked, its room asked, where rings are refused its cycles looked for, and then written to the second set of slices.
-ghost use Rattle.std.specs.Prelude.{◌≡◌};
+ghost use Rattle.std.specs.Prelude.{◌≡◌, Ok};
 ghost use Rattle.table.specs.Verdict.{Says};
-ghost use Rattle.table.specs.Table.{Edge, WellFormed};
+ghost use Rattle.table.specs.Table.{WellFormed, edges};
 ghost use Rattle.rule.specs.declared.Choosing.TheVariants.{Sum, Weakest};
-ghost use Rattle.rule.specs.Way.{plain, ringed, the_fold};
-ghost use Rattle.folding.specs.Folding.{FoldDone, FoldedAt};
+ghost use Rattle.rule.specs.Way.{the_fold, plain as refusing, ringed as taking};
+ghost use Rattle.folding.specs.Folding.{FoldDone, FoldedAt, outcome_of};
 ghost use Rattle.folding.specs.Steps.{Refuses, FoldRoom};
 
 use rule::{Choosing, Mode, Rings};
-use table::VERTEX_LIMIT;
+use table::{Refusal, Rows, Table, VERTEX_LIMIT};
 
-// What folding answers: the number, how many were folded, how many candidates remain in the new table, and the new edge count.
+// What a fold leaves: how many were folded, how many candidates remain in the new table, and the new edge count.
 #[derive(Clone, Copy)]
 pub struct Folded {
-    pub number: u32,
     pub folded: usize,
     pub left: usize,
     pub edges: usize,
 }
 
-// A refusal: every other field is 0.
-fn refused(number: u32) -> Folded
-    ensures { (result.number ≡ number) × (result.folded ≡ 0) × (result.left ≡ 0) × (result.edges ≡ 0) }
-{
-    Folded {
-        number,
-        folded: 0,
-        left: 0,
-        edges: 0,
-    }
-}
-
 // Whether rings are refused and the table has a directed cycle.
-fn refuses(rings: Rings, starts: &[u32], targets: &[u32]) -> bool
-    requires { WellFormed starts.now targets.now }
-    ensures { Says result (Refuses rings (Edge starts.now targets.now)) }
+fn refuses(rings: Rings, rows: &Rows) -> bool
+    requires { WellFormed rows.now.starts rows.now.targets }
+    ensures { Says result (Refuses rings (edges rows.now)) }
 {
-    let Rings::Refused = rings else {
-        return false;
-    };
-    let mut colours = [0u8; VERTEX_LIMIT];
-    cycle::has_cycle(starts, targets, &mut colours)
+    match rings {
+        Rings::Refused => cycle::has_cycle(rows, &mut [0u8; VERTEX_LIMIT]),
+        Rings::Taken => false,
+    }
 }
 
 // Folds a table, with a slice that has room for the number of every vertex.
 fn fold_in(
     mode: Mode,
-    starts: &[u32],
-    targets: &[u32],
-    counts: &[u64],
+    table: &Table,
     budget: usize,
     next: &mut [u32],
     starts2: &mut [u32],
@@ -57,195 +41,188 @@ fn fold_in(
 ) -> Folded
     requires { FoldRoom
         (the_fold mode)
-        (record { rows = record { starts = starts.now; targets = targets.now }; counts = counts.now })
+        table.now
         next.old
         (record { rows = record { starts = starts2.old; targets = targets2.old }; counts = counts2.old }) }
-    ensures { (result.number ≡ 0)
-        × FoldedAt
+    ensures { FoldedAt
         (the_fold mode)
-        (record { rows = record { starts = starts.now; targets = targets.now }; counts = counts.now })
+        table.now
         budget
         (record { rows = record { starts = starts2.old; targets = targets2.old }; counts = counts2.old })
         (record { rows = record { starts = starts2.new; targets = targets2.new }; counts = counts2.new })
-        result }
+        (outcome_of (Ok result)) }
 {
-    let n = starts.len() - 1;
+    let n = table.rows.vertices();
     let rows = &mut next[..n];
-    let turned = turns::turn(
-        mode,
-        starts,
-        targets,
-        counts,
-        budget,
-        rows,
-        &mut counts2[..n],
-    );
-    let edges = staying::write_table(starts, targets, rows, starts2, targets2);
+    let turned = turns::turn(mode, table, budget, rows, &mut counts2[..n]);
+    let edges = staying::write_table(&table.rows, rows, starts2, targets2);
     Folded {
-        number: 0,
         folded: turned.folded,
         left: turned.found - turned.folded,
         edges,
     }
 }
 
-// Folds a table by a budget into a second set of slices, each candidate to the path that is chosen: 1 to 7, then 8, then, where rings are refused, 9, the first of them, or 0
-// with folded, left and edges.
+// Folds a table by a budget into a second set of slices, each candidate to the path that is chosen: a refusal is 1 to 7, then 8, then, where rings are refused, 9, the first
+// of them. The second set is three slices and no struct: of slices that are lent in a struct to be written nothing is known once the loan is over.
 pub fn fold_by(
     mode: Mode,
-    starts: &[u32],
-    targets: &[u32],
-    counts: &[u64],
+    table: &Table,
     budget: u32,
     starts2: &mut [u32],
     targets2: &mut [u32],
     counts2: &mut [u64],
-) -> Folded
+) -> Result<Folded, Refusal>
     ensures { FoldDone
         (the_fold mode)
-        (record { rows = record { starts = starts.now; targets = targets.now }; counts = counts.now })
+        table.now
         budget
         (record { rows = record { starts = starts2.old; targets = targets2.old }; counts = counts2.old })
         (record { rows = record { starts = starts2.new; targets = targets2.new }; counts = counts2.new })
-        result }
+        (outcome_of result) }
 {
-    let number = table::check_counted(starts, targets, counts);
-    if number != 0 {
-        return refused(number);
+    table.check()?;
+    let n = table.rows.vertices();
+    if starts2.len() < n + 1 || targets2.len() < table.rows.targets.len() || counts2.len() < n {
+        return Err(Refusal::Room);
     }
-    let n = starts.len() - 1;
-    if starts2.len() < n + 1 {
-        return refused(8);
-    }
-    if targets2.len() < targets.len() {
-        return refused(8);
-    }
-    if counts2.len() < n {
-        return refused(8);
-    }
-    let rings = mode.rings;
-    if refuses(rings, starts, targets) {
-        return refused(9);
+    if refuses(mode.rings, &table.rows) {
+        return Err(Refusal::Cycle);
     }
     let mut next = [0u32; VERTEX_LIMIT];
-    fold_in(
+    Ok(fold_in(
         mode,
-        starts,
-        targets,
-        counts,
+        table,
         budget as usize,
         &mut next,
+        starts2,
+        targets2,
+        counts2,
+    ))
+}
+
+// A fold that refuses a table with a directed cycle.
+fn plain(by: Choosing) -> Mode
+    ensures { result ≡ refusing by }
+{
+    Mode {
+        rings: Rings::Refused,
+        by,
+    }
+}
+
+// A fold that takes rings.
+fn ringed(by: Choosing) -> Mode
+    ensures { result ≡ taking by }
+{
+    Mode {
+        rings: Rings::Taken,
+        by,
+    }
+}
+
+// The folds by name, each `fold_by` in its mode: they are what users call, and a C program with them.
+
+// The fold of version 1: the path with the largest sum of inner counts is kept. A table with a directed cycle is refused.
+pub fn fold(
+    table: &Table,
+    budget: u32,
+    starts2: &mut [u32],
+    targets2: &mut [u32],
+    counts2: &mut [u64],
+) -> Result<Folded, Refusal>
+    ensures { FoldDone
+        (the_fold (refusing Sum))
+        table.now
+        budget
+        (record { rows = record { starts = starts2.old; targets = targets2.old }; counts = counts2.old })
+        (record { rows = record { starts = starts2.new; targets = targets2.new }; counts = counts2.new })
+        (outcome_of result) }
+{
+    fold_by(
+        plain(Choosing::Sum),
+        table,
+        budget,
         starts2,
         targets2,
         counts2,
     )
 }
 
-// The fold of version 1: the path with the largest sum of inner counts is kept. A table with a directed cycle is refused.
-pub fn fold(
-    starts: &[u32],
-    targets: &[u32],
-    counts: &[u64],
-    budget: u32,
-    starts2: &mut [u32],
-    targets2: &mut [u32],
-    counts2: &mut [u64],
-) -> Folded
-    ensures { FoldDone
-        (the_fold (plain Sum))
-        (record { rows = record { starts = starts.now; targets = targets.now }; counts = counts.now })
-        budget
-        (record { rows = record { starts = starts2.old; targets = targets2.old }; counts = counts2.old })
-        (record { rows = record { starts = starts2.new; targets = targets2.new }; counts = counts2.new })
-        result }
-{
-    let mode = Mode {
-        rings: Rings::Refused,
-        by: Choosing::Sum,
-    };
-    fold_by(
-        mode, starts, targets, counts, budget, starts2, targets2, counts2,
-    )
-}
-
 // The fold of version 2: the path with the largest least inner count is kept, and never the bare edge. A table with a directed cycle is refused.
 pub fn fold_weakest(
-    starts: &[u32],
-    targets: &[u32],
-    counts: &[u64],
+    table: &Table,
     budget: u32,
     starts2: &mut [u32],
     targets2: &mut [u32],
     counts2: &mut [u64],
-) -> Folded
+) -> Result<Folded, Refusal>
     ensures { FoldDone
-        (the_fold (plain Weakest))
-        (record { rows = record { starts = starts.now; targets = targets.now }; counts = counts.now })
+        (the_fold (refusing Weakest))
+        table.now
         budget
         (record { rows = record { starts = starts2.old; targets = targets2.old }; counts = counts2.old })
         (record { rows = record { starts = starts2.new; targets = targets2.new }; counts = counts2.new })
-        result }
+        (outcome_of result) }
 {
-    let mode = Mode {
-        rings: Rings::Refused,
-        by: Choosing::Weakest,
-    };
     fold_by(
-        mode, starts, targets, counts, budget, starts2, targets2, counts2,
+        plain(Choosing::Weakest),
+        table,
+        budget,
+        starts2,
+        targets2,
+        counts2,
     )
 }
 
 // The fold of version 1 that takes rings: any well-formed table, in which a superbubble with a bare edge whose exit reaches its entrance is skipped.
 pub fn fold_rings(
-    starts: &[u32],
-    targets: &[u32],
-    counts: &[u64],
+    table: &Table,
     budget: u32,
     starts2: &mut [u32],
     targets2: &mut [u32],
     counts2: &mut [u64],
-) -> Folded
+) -> Result<Folded, Refusal>
     ensures { FoldDone
-        (the_fold (ringed Sum))
-        (record { rows = record { starts = starts.now; targets = targets.now }; counts = counts.now })
+        (the_fold (taking Sum))
+        table.now
         budget
         (record { rows = record { starts = starts2.old; targets = targets2.old }; counts = counts2.old })
         (record { rows = record { starts = starts2.new; targets = targets2.new }; counts = counts2.new })
-        result }
+        (outcome_of result) }
 {
-    let taken = Rings::Taken;
-    let sum = Choosing::Sum;
-    let mode = Mode {
-        rings: taken,
-        by: sum,
-    };
     fold_by(
-        mode, starts, targets, counts, budget, starts2, targets2, counts2,
+        ringed(Choosing::Sum),
+        table,
+        budget,
+        starts2,
+        targets2,
+        counts2,
     )
 }
 
 // The fold of version 2 that takes rings.
 pub fn fold_rings_weakest(
-    starts: &[u32],
-    targets: &[u32],
-    counts: &[u64],
+    table: &Table,
     budget: u32,
     starts2: &mut [u32],
     targets2: &mut [u32],
     counts2: &mut [u64],
-) -> Folded
+) -> Result<Folded, Refusal>
     ensures { FoldDone
-        (the_fold (ringed Weakest))
-        (record { rows = record { starts = starts.now; targets = targets.now }; counts = counts.now })
+        (the_fold (taking Weakest))
+        table.now
         budget
         (record { rows = record { starts = starts2.old; targets = targets2.old }; counts = counts2.old })
         (record { rows = record { starts = starts2.new; targets = targets2.new }; counts = counts2.new })
-        result }
+        (outcome_of result) }
 {
-    let rings = Rings::Taken;
-    let weakest = Choosing::Weakest;
-    let mode = Mode { rings, by: weakest };
     fold_by(
-        mode, starts, targets, counts, budget, starts2, targets2, counts2,
+        ringed(Choosing::Weakest),
+        table,
+        budget,
+        starts2,
+        targets2,
+        counts2,
     )
 }

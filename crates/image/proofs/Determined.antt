@@ -5,7 +5,7 @@ use mathlib.Core.List.{List, [], ◌∷◌, ◌++◌}
 use native.Mathlib.Decide.{ℕ_discrete}
 use Rattle.table.proofs.VerdictLaws.{verdict_unique}
 use Rattle.layout.specs.Image.{Contents, version_of, vertices_of, edges_of}
-use Rattle.image.specs.declared.header.Sizes.{Sizes}
+use Rattle.image.specs.Looking.{Seen}
 use Rattle.image.specs.Looking.{image_demands, contents_room, ContentsAtFronts, SizesOf, NoSizes, Looked, Loaded}
 
 -- slices that held the same, with the same contents at their fronts
@@ -19,7 +19,7 @@ fronts_same a b =
     λ i. record { table = record { rows = record { starts = starts i; targets = targets i }; counts = counts i }; lengths = lengths i }
 
 -- the number, and an image's version, n and m or none, are the answer
-answers_same : {image : List ℕ} {answer₁ answer₂ : Sizes} → answer₁.number ≡ answer₂.number → (answer₁.number ≡ 0 → SizesOf image answer₁)
+answers_same : {image : List ℕ} {answer₁ answer₂ : Seen} → answer₁.number ≡ answer₂.number → (answer₁.number ≡ 0 → SizesOf image answer₁)
     → (answer₂.number ≡ 0 → SizesOf image answer₂) → ((answer₁.number ≡ 0 → ⊥) → NoSizes answer₁) → ((answer₂.number ≡ 0 → ⊥) → NoSizes answer₂)
     → answer₁ ≡ answer₂
 answers_same {answer₁ = answer₁} {answer₂} same taken₁ taken₂ refused₁ refused₂ =
@@ -37,7 +37,7 @@ answers_same {answer₁ = answer₁} {answer₂} same taken₁ taken₂ refused�
     λ i. record { number = same i; version = sizes.0 i; vertices = sizes.1 i; edges = sizes.2 i }
 
 -- one image loaded twice into slices that held the same
-pub load_determined : {image : List ℕ} {lent after₁ after₂ : Contents} {answer₁ answer₂ : Sizes} → Loaded image lent after₁ answer₁
+pub load_determined : {image : List ℕ} {lent after₁ after₂ : Contents} {answer₁ answer₂ : Seen} → Loaded image lent after₁ answer₁
     → Loaded image lent after₂ answer₂ → (answer₁ ≡ answer₂) × (after₁ ≡ after₂)
 load_determined {image} {lent} {answer₁ = answer₁} {answer₂ = answer₂} a b =
     let room = contents_room (version_of image) (vertices_of image) (edges_of image) lent in
@@ -53,6 +53,6 @@ load_determined {image} {lent} {answer₁ = answer₁} {answer₂ = answer₂} a
     )
 
 -- two looks at one image
-pub look_determined : {image : List ℕ} {answer₁ answer₂ : Sizes} → Looked image answer₁ → Looked image answer₂ → answer₁ ≡ answer₂
+pub look_determined : {image : List ℕ} {answer₁ answer₂ : Seen} → Looked image answer₁ → Looked image answer₂ → answer₁ ≡ answer₂
 look_determined {image} {answer₁} {answer₂} a b =
     answers_same (verdict_unique (image_demands image) answer₁.number answer₂.number a.verdict b.verdict) a.taken b.taken a.refused b.refused

@@ -1,61 +1,36 @@
 -- Laws of loading an image: how its number follows from look's and the room, and what stands in the slices. Assumes nothing.
-use Prim.Native.Nat.{ℕ, ◌+◌}
-use mathlib.Core.Path.{◌≡◌, refl, sym, ap, ap₂, ◌∙◌}
-use mathlib.Core.Logic.{inl, inr}
-use mathlib.Core.List.{List, [], ◌∷◌, ◌++◌, append-nil}
-use native.Mathlib.Omega.{arith}
-use lib.ListN.{length, take, drop}
-use lib.Seq.{take_at, drop-length, length-take-le}
+use Rattle.std.proofs.Common.{ℕ, ◌+◌, ◌≡◌, ap₂, inr, refl, sym, ap, ◌∙◌, List, [], ◌∷◌, ◌++◌, arith, length, take, drop, Err}
+use Rattle.std.proofs.lemmas.List.{append-nil, take_at, length-take-le, drop_all}
 use Rattle.table.specs.Limits.{vertex_limit, edge_limit}
+use Rattle.table.specs.declared.refusal.Refusal.{Refusal}
+use Rattle.table.specs.Refusals.{number as number_of}
 use Rattle.table.specs.Verdict.{Demand, Verdict, AllMet}
 use Rattle.table.specs.Table.{SoundTable}
 use Rattle.table.specs.Lent.{fronts}
 use Rattle.table.proofs.FrontLaws.{fronts_are}
+use Rattle.table.proofs.RefusalLaws.{number_not_zero}
 use Rattle.table.proofs.VerdictLaws.{accepted, goes_on, stops, first_met, verdict_unique}
 use Rattle.layout.specs.Lengths.{length_count}
 use Rattle.layout.specs.Image.{Contents, version_of, vertices_of, edges_of, starts_of, targets_of, counts_of, lengths_of, table_of, contents_of}
 use Rattle.layout.proofs.LengthLaws.{lengths_two, lengths_most}
 use Rattle.layout.proofs.ImageLaws.{starts_long, targets_long, counts_long, lengths_long}
-use Rattle.image.specs.declared.header.Sizes.{Sizes}
-use Rattle.image.specs.Looking.{
-  image_demands,
-  contents_room,
-  ExactRoom,
-  ContentsAtFronts,
-  contents_fronts,
-  Laid,
-  LaidInRoom,
-  SizesOf,
-  Looked,
-  Loaded,
-}
-use Rattle.image.proofs.HeaderLaws.{RefusedWith, no_sizes}
+use Rattle.image.specs.Looking.{Seen, image_demands, contents_room, ExactRoom, ContentsAtFronts, contents_fronts, LaidInRoom, SizesOf, Looked, Loaded, seen_of}
 use Rattle.image.proofs.LookLaws.{looked_met, looked_says, table_sound}
 
 -- the room that an image asks of slices
 abbrev image_room : List ℕ → Contents → Demand
 image_room image = contents_room (version_of image) (vertices_of image) (edges_of image)
 
-module _ {image : List ℕ} {version n m : ℕ} {lent : Contents} where
-  -- slices without room are left as they were,
-  pub no_room : ((contents_room version n m lent).met → ⊥) → LaidInRoom image version n m lent lent 8
-  no_room none = record { verdict = inl (none, refl); taken = λ e. absurd (let no : ⊥ = omega arith in no); refused = λ _. refl }
-
-  -- and slices with room take the contents at their fronts
-  pub with_room : {after : Contents} → (contents_room version n m lent).met → Laid image version n m lent after → LaidInRoom image version n m lent after 0
-  with_room room laid = record { verdict = inr (room, refl); taken = λ _. laid; refused = λ wrong. absurd (wrong refl) }
-
 -- an image that is refused leaves every slice as it was
-pub load_refused_by_image : {image : List ℕ} {lent : Contents} {looked answer : Sizes} → Looked image looked → (looked.number ≡ 0 → ⊥)
-    → RefusedWith looked.number answer → Loaded image lent lent answer
-load_refused_by_image {image} {lent} {looked} sees refusal fields =
+pub load_refused_by_image : {image : List ℕ} {lent : Contents} (refusal : Refusal) → Looked image (seen_of (Err refusal)) → Loaded image lent lent (seen_of (Err refusal))
+load_refused_by_image {image} {lent} refusal sees =
     record {
-      verdict = rw fields.0 (stops (image_demands image) (image_room image lent ∷ []) looked.number refusal sees.verdict);
-      taken = λ e. absurd (refusal (sym fields.0 ∙ e));
-      refused = λ _. (no_sizes fields, refl);
+      verdict = stops (image_demands image) (image_room image lent ∷ []) (number_of refusal) (number_not_zero refusal) sees.verdict;
+      taken = λ zero. absurd (number_not_zero refusal zero);
+      refused = λ wrong. (sees.refused wrong, refl);
     }
 
-module _ {image : List ℕ} {looked : Sizes} (sees : Looked image looked) (e : looked.number ≡ 0) {lent after : Contents} {number : ℕ}
+module _ {image : List ℕ} {looked : Seen} (sees : Looked image looked) (e : looked.number ≡ 0) {lent after : Contents} {number : ℕ}
     (laid : LaidInRoom image looked.version looked.vertices looked.edges lent after number) where
   -- of an accepted image the room decides
   by_room : Verdict (image_demands image ++ image_room image lent ∷ []) number
@@ -65,26 +40,16 @@ module _ {image : List ℕ} {looked : Sizes} (sees : Looked image looked) (e : l
       (rw (← says.version, ← says.vertices, ← says.edges) laid.verdict)
 
   -- slices without room are left as they were
-  pub load_refused_by_room : {answer : Sizes} → (number ≡ 0 → ⊥) → RefusedWith number answer → Loaded image lent after answer
-  load_refused_by_room refusal fields =
+  pub load_refused_by_room : (refusal : Refusal) → number ≡ number_of refusal → Loaded image lent after (seen_of (Err refusal))
+  load_refused_by_room refusal same =
       record {
-        verdict = rw fields.0 by_room;
-        taken = λ zero. absurd (refusal (sym fields.0 ∙ zero));
-        refused = λ _. (no_sizes fields, laid.refused refusal);
-      }
-
-  -- slices with room take the image's contents at their fronts
-  pub load_taken : number ≡ 0 → Loaded image lent after looked
-  load_taken zero =
-      let says = looked_says sees e in
-      record {
-        verdict = rw (e ∙ sym zero) by_room;
-        taken = λ _. (sees.taken e, rw (← says.version, ← says.vertices, ← says.edges) (laid.taken zero));
-        refused = λ wrong. absurd (wrong e);
+        verdict = rw same at by_room;
+        taken = λ zero. absurd (number_not_zero refusal zero);
+        refused = λ wrong. (record { no_version = refl; no_n = refl; no_m = refl }, laid.refused (λ zero. wrong (sym same ∙ zero)));
       }
 
 -- slices with the contents of an image at their fronts have them there
-pub fronts_hold : {image : List ℕ} {lent after : Contents} {answer : Sizes} → SizesOf image answer
+pub fronts_hold : {image : List ℕ} {lent after : Contents} {answer : Seen} → SizesOf image answer
     → ContentsAtFronts answer.version answer.vertices answer.edges (contents_of image) lent after
     → contents_fronts answer.version answer.vertices answer.edges after ≡ contents_of image
 fronts_hold {image} {lent} {after} {answer} sizes at =
@@ -97,7 +62,7 @@ fronts_hold {image} {lent} {after} {answer} sizes at =
     = ap (take count) at.lengths_front ∙ take_at (lengths_of image) (drop count lent.lengths) count (lengths_long image ∙ count-is) in
     λ i. record { table = table_is i; lengths = lengths-are i }
 
-module _ {image : List ℕ} {lent after : Contents} {answer : Sizes} (loaded : Loaded image lent after answer) (e : answer.number ≡ 0) where
+module _ {image : List ℕ} {lent after : Contents} {answer : Seen} (loaded : Loaded image lent after answer) (e : answer.number ≡ 0) where
   -- an image that was loaded met all that is asked of it
   pub loaded_met : AllMet (image_demands image)
   loaded_met =
@@ -129,9 +94,9 @@ module _ {image : List ℕ} {lent after : Contents} {answer : Sizes} (loaded : L
 
 -- nothing stands behind what fills a slice
 nothing_behind : (front list : List ℕ) (k : ℕ) → length list ≡ k → front ++ drop k list ≡ front
-nothing_behind front list k long = ap (λ (j : ℕ). front ++ drop j list) (sym long) ∙ ap (λ (rest : List ℕ). front ++ rest) (drop-length list) ∙ append-nil front
+nothing_behind front list k long = ap (λ (j : ℕ). front ++ drop j list) (sym long) ∙ ap (λ (rest : List ℕ). front ++ rest) (drop_all (length list) list (omega arith)) ∙ append-nil front
 
-module _ {image : List ℕ} {looked : Sizes} (sees : Looked image looked) (e : looked.number ≡ 0) where
+module _ {image : List ℕ} {looked : Seen} (sees : Looked image looked) (e : looked.number ≡ 0) where
   -- an image that look accepts has a well-formed table,
   pub looked_table : SoundTable (table_of image)
   looked_table = table_sound image (looked_met sees e)
@@ -149,7 +114,7 @@ module _ {image : List ℕ} {looked : Sizes} (sees : Looked image looked) (e : l
         lengths_exact = length-take-le count slices.lengths (omega (arith, few, room, lengths_two vertex_limit, lengths_most looked.version looked.vertices));
       }
 
-  module _ {lent after : Contents} {answer : Sizes} (exact : ExactRoom looked.version looked.vertices looked.edges lent)
+  module _ {lent after : Contents} {answer : Seen} (exact : ExactRoom looked.version looked.vertices looked.edges lent)
       (loads : Loaded image lent after answer) where
     -- is loaded into slices of exactly that many,
     exact_loaded : answer.number ≡ 0

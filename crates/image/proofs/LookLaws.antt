@@ -1,32 +1,29 @@
 -- Laws of looking at an image: what an accepted header says, and how the check of the contents gives 3, 4, 5, 7 and 20 of an image. Assumes nothing.
-use Prim.Native.Nat.{ℕ, ◌+◌, ◌*◌, ◌<◌}
-use mathlib.Core.Path.{◌≡◌, sym, ap, ◌∙◌}
-use mathlib.Core.List.{List, ◌++◌}
-use native.Mathlib.Omega.{arith}
-use lib.ListN.{get_or, take, drop}
-use lib.Seq.{drop-drop}
+use Rattle.std.proofs.Common.{ℕ, ◌+◌, ◌*◌, ◌<◌, ◌≡◌, refl, ap, ◌∙◌, List, ◌++◌, arith, get_or, take, drop, Err}
+use Rattle.std.proofs.lemmas.List.{drop-drop}
+use Rattle.table.specs.declared.refusal.Refusal.{Refusal}
+use Rattle.table.specs.Refusals.{number as number_of}
 use Rattle.table.specs.Verdict.{Verdict, AllMet}
 use Rattle.table.specs.Table.{Below, size, SoundTable}
-use Rattle.table.proofs.VerdictLaws.{accepted, goes_on, stops, first_met}
+use Rattle.table.proofs.RefusalLaws.{number_not_zero}
+use Rattle.table.proofs.VerdictLaws.{accepted, goes_on, first_met}
 use Rattle.layout.specs.Bytes.{value_of}
 use Rattle.layout.specs.Lengths.{length_count}
 use Rattle.layout.specs.Image.{SoundContents, version_of, vertices_of, edges_of, lengths_of, table_of, contents_of}
 use Rattle.layout.proofs.ByteLaws.{half_at}
 use Rattle.layout.proofs.ImageLaws.{starts_long, targets_long, counts_long, lengths_long}
 use Rattle.in_place.specs.InPlace.{Sized, contents_in, placed_demands}
-use Rattle.in_place.proofs.NumberLaws.{number_at}
-use Rattle.image.specs.declared.header.Sizes.{Sizes}
-use Rattle.image.specs.Looking.{header_demands, body_demands, image_demands, SizesOf, HeaderJudged, Looked}
-use Rattle.image.proofs.HeaderLaws.{RefusedWith, no_sizes}
+use Rattle.layout.proofs.ByteLaws.{number_at}
+use Rattle.image.specs.Looking.{Seen, header_demands, body_demands, image_demands, SizesOf, HeaderJudged, Looked, seen_of}
 
 -- what an accepted header says of its image
-pub record HeaderSays (image : List ℕ) (answer : Sizes) : Type 0 where
+pub record HeaderSays (image : List ℕ) (answer : Seen) : Type 0 where
   pub version : answer.version ≡ version_of image
   pub vertices : answer.vertices ≡ vertices_of image
   pub edges : answer.edges ≡ edges_of image
   pub sized : Sized image answer.version answer.vertices answer.edges
 
-says : {image : List ℕ} {answer : Sizes} → AllMet (header_demands image) → SizesOf image answer → HeaderSays image answer
+says : {image : List ℕ} {answer : Seen} → AllMet (header_demands image) → SizesOf image answer → HeaderSays image answer
 says met sizes =
     record {
       version = sizes.same_version;
@@ -40,26 +37,14 @@ says met sizes =
           };
     }
 
-module _ {image : List ℕ} {answer : Sizes} (judged : HeaderJudged image answer) (e : answer.number ≡ 0) where
+module _ {image : List ℕ} {answer : Seen} (judged : HeaderJudged image answer) (e : answer.number ≡ 0) where
   -- a header that is accepted meets all that is asked of it
   header_met : AllMet (header_demands image)
   header_met =
       accepted (header_demands image)
       ((λ e. omega arith), ((λ e. omega arith), ((λ e. omega arith), ((λ e. omega arith), ((λ e. omega arith), tt))))) (rw e at judged.verdict)
 
-  pub header_says : HeaderSays image answer
-  header_says = says header_met (judged.taken e)
-
-module _ {image : List ℕ} {answer : Sizes} where
-  -- a header that is refused is the image's refusal
-  pub looked_by_header : (answer.number ≡ 0 → ⊥) → HeaderJudged image answer → Looked image answer
-  looked_by_header refusal h =
-      record {
-        verdict = stops (header_demands image) (body_demands image) answer.number refusal h.verdict;
-        taken = h.taken;
-        refused = h.refused;
-      }
-
+module _ {image : List ℕ} {answer : Seen} where
   module _ (h : HeaderJudged image answer) (e : answer.number ≡ 0) {number : ℕ}
       (v : Verdict (placed_demands (contents_in image answer.version answer.vertices answer.edges)) number) where
     -- behind an accepted header the contents decide
@@ -69,15 +54,15 @@ module _ {image : List ℕ} {answer : Sizes} where
         goes_on (header_demands image) (body_demands image) number (header_met h e) (rw (← sizes.same_version, ← sizes.same_n, ← sizes.same_m) v)
 
     -- contents that are refused are the image's refusal
-    pub looked_by_contents : {refusal : Sizes} → (number ≡ 0 → ⊥) → RefusedWith number refusal → Looked image refusal
-    looked_by_contents wrong fields =
-        record { verdict = rw fields.0 by_contents; taken = λ z. absurd (wrong (sym fields.0 ∙ z)); refused = λ _. no_sizes fields }
+    pub looked_by_contents : (refusal : Refusal) → number ≡ number_of refusal → Looked image (seen_of (Err refusal))
+    looked_by_contents refusal same =
+        record {
+          verdict = rw same at by_contents;
+          taken = λ zero. absurd (number_not_zero refusal zero);
+          refused = λ _. record { no_version = refl; no_n = refl; no_m = refl };
+        }
 
-    -- header and contents accepted
-    pub looked_sound : number ≡ 0 → Looked image answer
-    looked_sound zero = record { verdict = rw (e ∙ sym zero) by_contents; taken = h.taken; refused = λ wrong. absurd (wrong e) }
-
-module _ {image : List ℕ} {answer : Sizes} (looked : Looked image answer) (e : answer.number ≡ 0) where
+module _ {image : List ℕ} {answer : Seen} (looked : Looked image answer) (e : answer.number ≡ 0) where
   -- an image that is accepted meets all that is asked of it
   pub looked_met : AllMet (header_demands image ++ body_demands image)
   looked_met =

@@ -1,6 +1,8 @@
 -- What looking at an image and loading it state: the number, every field, and all memory lent, on a refusal too. Assumes nothing.
-use Rattle.std.specs.Prelude.{ℕ, ◌+◌, ◌≤◌, ◌≡◌, List, [], ◌∷◌, ◌++◌, length, take, drop}
+use Rattle.std.specs.Prelude.{ℕ, ◌+◌, ◌≤◌, ◌≡◌, List, [], ◌∷◌, ◌++◌, length, take, drop, Result, Ok, Err}
 use Rattle.table.specs.Limits.{vertex_limit, edge_limit}
+use Rattle.table.specs.declared.refusal.Refusal.{Refusal}
+use Rattle.table.specs.Refusals.{number}
 use Rattle.table.specs.Verdict.{Demand, Verdict}
 use Rattle.table.specs.Numbers.{room_for}
 use Rattle.table.specs.Lent.{AtFronts, fronts}
@@ -8,6 +10,18 @@ use Rattle.layout.specs.Lengths.{Known, length_count}
 use Rattle.layout.specs.Image.{mark, Contents, image_length, version_of, vertices_of, edges_of, contents_of}
 use Rattle.in_place.specs.InPlace.{Sized, contents_in, placed_demands}
 use Rattle.image.specs.declared.header.Sizes.{Sizes}
+
+-- what looking at an image and loading it answer, in the words of docs/RULES.md: the number, the version, n and m
+pub record Seen : Type 0 where
+  pub number : ℕ
+  pub version : ℕ
+  pub vertices : ℕ
+  pub edges : ℕ
+
+-- the sizes on success, and else the number of the refusal and 0 in every other field
+abbrev pub seen_of : Result Sizes Refusal → Seen
+seen_of (Ok sizes) = record { number = 0; version = sizes.version; vertices = sizes.vertices; edges = sizes.edges }
+seen_of (Err refusal) = record { number = number refusal; version = 0; vertices = 0; edges = 0 }
 
 -- 10: shorter than 13 bytes, or wrong mark
 abbrev pub marked : List ℕ → Demand
@@ -77,31 +91,31 @@ pub record LaidInRoom (image : List ℕ) (version n m : ℕ) (lent after : Conte
   pub refused : (number ≡ 0 → ⊥) → after ≡ lent
 
 -- the answer has the version, n and m of the image
-pub record SizesOf (image : List ℕ) (answer : Sizes) : Type 0 where
+pub record SizesOf (image : List ℕ) (answer : Seen) : Type 0 where
   pub same_version : answer.version ≡ version_of image
   pub same_n : answer.vertices ≡ vertices_of image
   pub same_m : answer.edges ≡ edges_of image
 
 -- version, n and m are 0, as on every refusal
-pub record NoSizes (answer : Sizes) : Type 0 where
+pub record NoSizes (answer : Seen) : Type 0 where
   pub no_version : answer.version ≡ 0
   pub no_n : answer.vertices ≡ 0
   pub no_m : answer.edges ≡ 0
 
 -- what judging a header states: number, version, n and m
-pub record HeaderJudged (image : List ℕ) (answer : Sizes) : Type 0 where
+pub record HeaderJudged (image : List ℕ) (answer : Seen) : Type 0 where
   pub verdict : Verdict (header_demands image) answer.number
   pub taken : answer.number ≡ 0 → SizesOf image answer
   pub refused : (answer.number ≡ 0 → ⊥) → NoSizes answer
 
 -- what looking at an image states: number, version, n and m
-pub record Looked (image : List ℕ) (answer : Sizes) : Type 0 where
+pub record Looked (image : List ℕ) (answer : Seen) : Type 0 where
   pub verdict : Verdict (image_demands image) answer.number
   pub taken : answer.number ≡ 0 → SizesOf image answer
   pub refused : (answer.number ≡ 0 → ⊥) → NoSizes answer
 
 -- what loading an image states: number, version, n and m, and the four slices before and after
-pub record Loaded (image : List ℕ) (lent after : Contents) (answer : Sizes) : Type 0 where
+pub record Loaded (image : List ℕ) (lent after : Contents) (answer : Seen) : Type 0 where
   pub verdict : Verdict (image_demands image ++ contents_room (version_of image) (vertices_of image) (edges_of image) lent ∷ []) answer.number
   pub taken :
       answer.number ≡ 0 → SizesOf image answer × ContentsAtFronts answer.version answer.vertices answer.edges (contents_of image) lent after

@@ -1,15 +1,17 @@
 // What stands in an image, laid out in slices.
+ghost use Rattle.table.specs.Refusals.{numbered};
 ghost use Rattle.in_place.specs.InPlace.{Sized};
 ghost use Rattle.image.specs.Looking.{LayRoom, Laid, LaidInRoom};
 
-use layout::{Header, read_halves, read_longs, read_words};
+use crate::header::Sizes;
+use layout::{Header, read_numbers};
+use table::Refusal;
 
-// Lays what stands in an image of a version, n and m at the fronts of four slices.
+// Lays what stands in an image of a version, n and m at the fronts of four slices. They are no struct: of slices that are lent in a struct to be written nothing is known
+// once the loan is over.
 pub fn lay(
     image: &[u8],
-    version: u32,
-    n: usize,
-    m: usize,
+    sizes: Sizes,
     starts: &mut [u32],
     targets: &mut [u32],
     counts: &mut [u64],
@@ -17,18 +19,18 @@ pub fn lay(
 )
     requires { LayRoom
         image.now
-        version
-        n
-        m
+        sizes.version
+        sizes.vertices
+        sizes.edges
         (record {
           table = record { rows = record { starts = starts.old; targets = targets.old }; counts = counts.old };
           lengths = lengths.old;
         }) }
     ensures { Laid
         image.now
-        version
-        n
-        m
+        sizes.version
+        sizes.vertices
+        sizes.edges
         (record {
           table = record { rows = record { starts = starts.old; targets = targets.old }; counts = counts.old };
           lengths = lengths.old;
@@ -38,32 +40,37 @@ pub fn lay(
           lengths = lengths.new;
         }) }
 {
+    let n = sizes.vertices;
+    let m = sizes.edges;
     let targets_at = Header::SIZE + 4 * (n + 1);
     let counts_at = targets_at + 4 * m;
     let lengths_at = counts_at + 8 * n;
-    read_words(image, Header::SIZE, n + 1, starts);
-    read_words(image, targets_at, m, targets);
-    read_longs(image, counts_at, n, counts);
-    read_halves(image, lengths_at, Header::lengths(version, n), lengths);
+    read_numbers(image, Header::SIZE, n + 1, starts);
+    read_numbers(image, targets_at, m, targets);
+    read_numbers(image, counts_at, n, counts);
+    read_numbers(
+        image,
+        lengths_at,
+        Header::lengths(sizes.version, n),
+        lengths,
+    );
 }
 
-// Lays it there where they have room for it: 0, or 8 and nothing is stored.
+// Lays it there where they have room for it, or 8 and nothing is stored.
 pub fn lay_in_room(
     image: &[u8],
-    version: u32,
-    n: usize,
-    m: usize,
+    sizes: Sizes,
     starts: &mut [u32],
     targets: &mut [u32],
     counts: &mut [u64],
     lengths: &mut [u16],
-) -> u32
-    requires { Sized image.now version n m }
+) -> Result<(), Refusal>
+    requires { Sized image.now sizes.version sizes.vertices sizes.edges }
     ensures { LaidInRoom
         image.now
-        version
-        n
-        m
+        sizes.version
+        sizes.vertices
+        sizes.edges
         (record {
           table = record { rows = record { starts = starts.old; targets = targets.old }; counts = counts.old };
           lengths = lengths.old;
@@ -72,20 +79,20 @@ pub fn lay_in_room(
           table = record { rows = record { starts = starts.new; targets = targets.new }; counts = counts.new };
           lengths = lengths.new;
         })
-        result }
+        (numbered result) }
 {
-    if starts.len() < n + 1 {
-        return 8;
+    if starts.len() < sizes.vertices + 1 {
+        return Err(Refusal::Room);
     }
-    if targets.len() < m {
-        return 8;
+    if targets.len() < sizes.edges {
+        return Err(Refusal::Room);
     }
-    if counts.len() < n {
-        return 8;
+    if counts.len() < sizes.vertices {
+        return Err(Refusal::Room);
     }
-    if lengths.len() < Header::lengths(version, n) {
-        return 8;
+    if lengths.len() < Header::lengths(sizes.version, sizes.vertices) {
+        return Err(Refusal::Room);
     }
-    lay(image, version, n, m, starts, targets, counts, lengths);
-    0
+    lay(image, sizes, starts, targets, counts, lengths);
+    Ok(())
 }

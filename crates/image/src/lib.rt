@@ -9,4 +9,4 @@ mod looking;
 pub use header::Sizes;
 pub use loading::load;
 pub use looking::look;
-pub use writing::{Extent, write, write_lengths};
+pub use writing::{write, write_lengths};

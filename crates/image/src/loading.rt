@@ -1,11 +1,12 @@
 // Loading an image: judged whole first, whatever an earlier look said of it, so that a refusal stores nothing.
-ghost use Rattle.image.specs.Looking.{Loaded};
+ghost use Rattle.image.specs.Looking.{Loaded, seen_of};
 
-use crate::header::{Sizes, refused};
+use crate::header::Sizes;
 use crate::laying::lay_in_room;
 use crate::looking::look;
+use table::Refusal;
 
-// Loads the contents of an image into lent slices: 10, 11, 1, 2, 12, 3, 4, 5, 7, 20, 8, in this order, or 0 with version, n and m. In version 1 nothing is asked of
+// Loads the contents of an image into lent slices: 10, 11, 1, 2, 12, 3, 4, 5, 7, 20, 8, the first that is given, or the version, n and m. In version 1 nothing is asked of
 // the lengths slice, and nothing is stored there.
 pub fn load(
     image: &[u8],
@@ -13,7 +14,7 @@ pub fn load(
     targets: &mut [u32],
     counts: &mut [u64],
     lengths: &mut [u16],
-) -> Sizes
+) -> Result<Sizes, Refusal>
     ensures { Loaded
         image.now
         (record {
@@ -24,24 +25,9 @@ pub fn load(
           table = record { rows = record { starts = starts.new; targets = targets.new }; counts = counts.new };
           lengths = lengths.new;
         })
-        result }
+        (seen_of result) }
 {
-    let sizes = look(image);
-    if sizes.number != 0 {
-        return refused(sizes.number);
-    }
-    let number = lay_in_room(
-        image,
-        sizes.version,
-        sizes.vertices,
-        sizes.edges,
-        starts,
-        targets,
-        counts,
-        lengths,
-    );
-    if number != 0 {
-        return refused(number);
-    }
-    sizes
+    let sizes = look(image)?;
+    lay_in_room(image, sizes, starts, targets, counts, lengths)?;
+    Ok(sizes)
 }

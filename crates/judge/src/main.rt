@@ -3,29 +3,21 @@
 
 use layout::Header;
 use std::io::Print;
-use words::Numeral;
-
-// What a word says of a vertex.
-#[derive(Clone, Copy)]
-enum Vertex {
-    Number(u32),
-    Wrong,
-}
+use words::NumeralError;
 
 // The vertex that word i says. A number that is too large for 32 bits is the largest of them, which is no vertex either.
-fn argument(rt: &HostRuntime, i: usize, room: &mut [u8]) -> Vertex {
-    let numeral = words::number(rt, i, room);
-    match numeral {
-        Numeral::Is(v) => Vertex::Number(v),
-        Numeral::TooLarge => Vertex::Number(4_294_967_295),
-        Numeral::Wrong => Vertex::Wrong,
+fn vertex(rt: &HostRuntime, i: usize, room: &mut [u8]) -> Option<u32> {
+    match words::number(rt, i, room) {
+        Ok(v) => Some(v),
+        Err(NumeralError::TooLarge) => Some(u32::MAX),
+        Err(NumeralError::Wrong) => None,
     }
 }
 
 // Says how the program is called.
 fn usage(rt: &HostRuntime) {
-    let _ = rt.write_all(
-        b"usage: judge S T < IMAGE: says whether the vertices S and T, numbers from 0, are a superbubble, and of how many vertices\n",
+    let _ = rt.println(
+        "usage: judge S T < IMAGE: says whether the vertices S and T, numbers from 0, are a superbubble, and of how many vertices",
     );
 }
 
@@ -36,21 +28,14 @@ fn main(rt: HostRuntime) {
         return;
     }
     let mut room = [0u8; words::LONGEST];
-    let Vertex::Number(s) = argument(&rt, 1, &mut room) else {
+    let (Some(s), Some(t)) = (vertex(&rt, 1, &mut room), vertex(&rt, 2, &mut room)) else {
         usage(&rt);
         return;
     };
-    let Vertex::Number(t) = argument(&rt, 2, &mut room) else {
-        usage(&rt);
+    let Some(image) = exchange::read_input(&rt, &mut room, Header::STREAM) else {
         return;
     };
-    let input = exchange::read_input(&rt, &mut room, Header::STREAM);
-    if input.error != 0 {
-        return;
-    }
-    let count = input.count;
     let mut text = [0u8; judge_bytes::LONGEST];
-    let answer = judge_bytes::answer(&room[..count], s, t, &mut text);
-    let length = answer.length;
-    exchange::print(&rt, &text[..length], answer.number);
+    let answer = judge_bytes::answer(image, s, t, &mut text);
+    exchange::print(&rt, &text[..answer.length], answer.refusal);
 }

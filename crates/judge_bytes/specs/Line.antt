@@ -3,11 +3,9 @@ use Rattle.std.specs.Prelude.{ℕ, ◌≡◌, List, [], ◌∷◌, ◌++◌}
 use Rattle.table.specs.Table.{Rows}
 use Rattle.layout.specs.Image.{table_of}
 use Rattle.image.specs.Looking.{image_demands}
-use Rattle.judging.specs.declared.Judgement.{Judgement}
-use Rattle.judging.specs.Judging.{pair_inside, Judged}
-use Rattle.printing.specs.declared.Answer.{Answer}
+use Rattle.judging.specs.Judging.{Judgement, pair_inside, Judged}
 use Rattle.texts.specs.Text.{text, judgement_lines}
-use Rattle.printing.specs.Answered.{Answered}
+use Rattle.printing.specs.Answered.{Told, Answered}
 
 -- the bytes are the text of the judgement of a pair
 pub record JudgementText (rows : Rows) (s t : ℕ) (printed : List ℕ) : Type 0 where
@@ -16,6 +14,6 @@ pub record JudgementText (rows : Rows) (s t : ℕ) (printed : List ℕ) : Type 0
   pub spelled : printed ≡ text (judgement_lines judgement.yes judgement.size)
 
 -- the text of the judgement of a pair in the table that stands in an image, or of the refusal; and the buffer, before and after
-abbrev pub JudgeAnswer : List ℕ → ℕ → ℕ → List ℕ → List ℕ → Answer → Type 0
+abbrev pub JudgeAnswer : List ℕ → ℕ → ℕ → List ℕ → List ℕ → Told → Type 0
 JudgeAnswer image s t =
     Answered (image_demands image ++ pair_inside (table_of image).rows s t ∷ []) (JudgementText (table_of image).rows s t)

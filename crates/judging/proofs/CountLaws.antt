@@ -1,29 +1,20 @@
 -- The vertices of U in a set: added one after the other, and counted. Assumes nothing.
-use Prim.Native.Nat.{ℕ, ◌+◌, ◌<◌}
-use mathlib.Core.Path.{◌≡◌, refl, sym, ◌∙◌}
-use mathlib.Core.Logic.{◌⊎◌, inl, inr}
-use mathlib.Core.List.{List}
+use Rattle.std.proofs.Common.{ℕ, ◌+◌, ◌<◌, ◌≡◌, refl, sym, ◌∙◌, ◌⊎◌, inl, inr, List, arith, length, get_or, take, replicate}
 use native.Mathlib.Decide.{ℕ_discrete}
-use native.Mathlib.Omega.{arith}
-use lib.ListN.{length, get_or, take, replicate}
 use Rattle.table.specs.Limits.{vertex_limit}
 use Rattle.table.specs.Table.{vertices, In, Edge, Below, WellFormed}
 use Rattle.table.proofs.RowLaws.{edges_below}
 use Rattle.bubble.specs.Superbubble.{F}
 use Rattle.bubble.proofs.Facts.{exit_inside}
 use Rattle.bubble.proofs.Number.{inside_below}
-use Rattle.vertices.specs.Vertices.{Member, Numbers, Words, Added, Size}
+use Rattle.vertices.specs.Vertices.{Member, Numbers, Added, Size}
 use Rattle.vertices.proofs.SetLaws.{empty}
 use Rattle.vertices.proofs.NumberLaws.{numbers_same}
 use Rattle.parents.proofs.PlaceLaws.{in_take, take_in}
 use Rattle.search.specs.Search.{Visited}
 use Rattle.judging.specs.Steps.{AllAdded}
 
--- the first k of the vertices were added
-pub added_none : {words : List ℕ} (vertices : List ℕ) → Words words → AllAdded words words (take 0 vertices)
-added_none vertices ok =
-    record { still = ok; members = λ x. ((λ m. inl m), elim [ inl m ↦ m | inr i ↦ absurd (let no : ⊥ = omega (arith, i.inside) in no) ]) }
-
+-- one of the vertices more was added
 pub added_more : {words words' words'' : List ℕ} (vertices : List ℕ) (k : ℕ) → k < length vertices → AllAdded words words' (take k vertices)
     → Added words' words'' (get_or vertices k 0) → AllAdded words words'' (take (k + 1) vertices)
 added_more {words} {words'} {words''} vertices k h before one =

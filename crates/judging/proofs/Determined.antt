@@ -1,16 +1,12 @@
 -- Two judgements that the contract of judge allows coincide. Assumes nothing.
-use Prim.Native.Nat.{ℕ}
-use mathlib.Core.Path.{◌≡◌, refl, sym, ◌∙◌}
-use mathlib.Core.Bool.{Bool, true, false}
-use mathlib.Core.List.{[], ◌∷◌, ◌++◌}
+use Rattle.std.proofs.Common.{ℕ, ◌≡◌, refl, sym, ◌∙◌, Bool, true, false, [], ◌∷◌, ◌++◌}
 use native.Mathlib.Decide.{ℕ_discrete}
 use Rattle.table.specs.Table.{Rows, edges}
 use Rattle.table.specs.Numbers.{table_demands}
 use Rattle.table.proofs.VerdictLaws.{says_unique, verdict_unique}
 use Rattle.bubble.specs.Superbubble.{Superbubble}
 use Rattle.vertices.proofs.NumberLaws.{numbers_unique}
-use Rattle.judging.specs.declared.Judgement.{Judgement}
-use Rattle.judging.specs.Judging.{pair_inside, Judged, JudgeDone}
+use Rattle.judging.specs.Judging.{Judgement, pair_inside, Judged, JudgeDone}
 
 -- two answers to one pair that are both yes or both no have the same number of vertices
 same_size : {rows : Rows} {s t : ℕ} {answer₁ answer₂ : Judgement} → answer₁.yes ≡ answer₂.yes → Judged rows s t answer₁ → Judged rows s t answer₂

@@ -1,5 +1,5 @@
 -- What the steps of judge state between themselves. Assumes nothing.
-use Rattle.std.specs.Prelude.{ℕ, ◌≤◌, ◌<◌, ◌≡◌, ◌↔◌, ◌⊎◌, List, length}
+use Rattle.std.specs.Prelude.{ℕ, ◌<◌, ◌≡◌, ◌↔◌, ◌⊎◌, List, length}
 use Rattle.table.specs.Table.{In, Rows, size, Sound}
 use Rattle.vertices.specs.Vertices.{Member, Words}
 
@@ -11,15 +11,6 @@ pub record JudgeReady (rows : Rows) (s t : ℕ) (parents pending order : List �
   pub parents_long : length parents ≡ size rows
   pub pending_long : length pending ≡ size rows
   pub order_long : length order ≡ size rows
-
--- the same with slices of n or more
-pub record JudgeRoom (rows : Rows) (s t : ℕ) (parents pending order : List ℕ) : Type 0 where
-  pub sound : Sound rows
-  pub entrance : s < size rows
-  pub exit : t < size rows
-  pub parents_room : size rows ≤ length parents
-  pub pending_room : size rows ≤ length pending
-  pub order_room : size rows ≤ length order
 
 -- each of the vertices was added to the set
 pub record AllAdded (words words' vertices : List ℕ) : Type 0 where

@@ -1,16 +1,16 @@
 // Judge: whether one pair is a superbubble, and the number of vertices in its U.
 #![tactic(auto)]
 
-ghost use Rattle.std.specs.Prelude.{◌<◌, false, ◌⊎◌, ◌≡◌};
+ghost use Rattle.std.specs.Prelude.{◌<◌, ◌≤◌, ◌⊎◌, ◌≡◌};
 ghost use Rattle.table.specs.Limits.{vertex_limit};
-ghost use Rattle.table.specs.Table.{Below, In};
+ghost use Rattle.table.specs.Table.{Below, In, Sound, size as rows_size};
 ghost use Rattle.vertices.specs.Vertices.{Words, Numbers};
-ghost use Rattle.judging.specs.Judging.{Judged, JudgeDone};
-ghost use Rattle.judging.specs.Steps.{AllAdded, JudgeReady, JudgeRoom};
+ghost use Rattle.judging.specs.Judging.{Judged, JudgeDone, answer_of, judgement_of};
+ghost use Rattle.judging.specs.Steps.{AllAdded, JudgeReady};
 
-use parents::{copy, count_parents};
-use search::{Exit, search};
-use table::VERTEX_LIMIT;
+use parents::count_parents;
+use search::search;
+use table::{Refusal, Rows, VERTEX_LIMIT};
 use vertices::{SET_WORDS, put, size};
 
 // A table of at most so many vertices is worked on in small arrays, which are cleared sooner,
@@ -19,45 +19,13 @@ const SMALL: usize = 64;
 // and one of at most so many in larger ones.
 const MIDDLING: usize = 256;
 
-// What judge answers: the number, yes or no, and the number of vertices in U.
-#[derive(Clone, Copy)]
-pub struct Judgement {
-    pub number: u32,
-    pub yes: bool,
-    pub size: u32,
-}
-
-// A refusal, which says no and has no vertices.
-fn refused(number: u32) -> Judgement
-    ensures { (result.number ≡ number) × (result.yes ≡ false) × (result.size ≡ 0) }
-{
-    Judgement {
-        number,
-        yes: false,
-        size: 0,
-    }
-}
-
-// A no to a pair that is judged, which has no vertices.
-fn no() -> Judgement
-    ensures { (result.number ≡ 0) × (result.yes ≡ false) × (result.size ≡ 0) }
-{
-    Judgement {
-        number: 0,
-        yes: false,
-        size: 0,
-    }
-}
-
 // Adds each of the vertices to the set.
 fn put_all(words: &mut [u64; SET_WORDS], vertices: &[u32])
     requires { Words words.old × Below vertex_limit vertices.now }
     ensures { AllAdded words.old words.new vertices.now }
 {
-    let mut k = 0;
-    while k < vertices.len() {
-        put(words, vertices[k]);
-        k += 1;
+    for v in vertices {
+        put(words, *v);
     }
 }
 
@@ -74,50 +42,39 @@ fn count_vertices(visited: &[u32], exit: u32) -> u32
 
 // Judges a pair by one search from s, with slices of n to work on.
 fn judge_with(
-    starts: &[u32],
-    targets: &[u32],
+    rows: &Rows,
     s: u32,
     t: u32,
     parents: &mut [u32],
     pending: &mut [u32],
     order: &mut [u32],
-) -> Judgement
-    requires { JudgeReady (record { starts = starts.now; targets = targets.now }) s t parents.old pending.old order.old }
-    ensures { (result.number ≡ 0) × Judged (record { starts = starts.now; targets = targets.now }) s t result }
+) -> Option<u32>
+    requires { JudgeReady rows.now s t parents.old pending.old order.old }
+    ensures { Judged rows.now s t (answer_of result) }
 {
-    count_parents(targets, parents);
-    copy(parents, pending);
-    let exit = search(starts, targets, parents, pending, order, s);
-    let Exit::At(x, k) = exit else {
-        return no();
-    };
-    if x != t {
-        return no();
+    count_parents(rows.targets, parents);
+    pending.copy_from_slice(parents);
+    let exit = search(rows, parents, pending, order, s)?;
+    if exit.vertex != t {
+        return None;
     }
-    Judgement {
-        number: 0,
-        yes: true,
-        size: count_vertices(&order[..k], x),
-    }
+    let size = count_vertices(&order[..exit.visited], exit.vertex);
+    Some(size)
 }
 
-// The same with slices of n or more, whose first n are worked on.
-fn judge_in(
-    starts: &[u32],
-    targets: &[u32],
-    s: u32,
-    t: u32,
-    parents: &mut [u32],
-    pending: &mut [u32],
-    order: &mut [u32],
-) -> Judgement
-    requires { JudgeRoom (record { starts = starts.now; targets = targets.now }) s t parents.old pending.old order.old }
-    ensures { (result.number ≡ 0) × Judged (record { starts = starts.now; targets = targets.now }) s t result }
+// The same in arrays of N, of which the first n are worked on.
+fn judge_in<const N: usize>(rows: &Rows, s: u32, t: u32) -> Option<u32>
+    requires sound { Sound rows.now }
+    requires inside { (s < rows_size rows.now) × (t < rows_size rows.now) }
+    requires room { (rows_size rows.now ≤ N) × (N ≤ vertex_limit) }
+    ensures { Judged rows.now s t (answer_of result) }
 {
-    let n = starts.len() - 1;
+    let n = rows.vertices();
+    let mut parents = [0u32; N];
+    let mut pending = [0u32; N];
+    let mut order = [0u32; N];
     judge_with(
-        starts,
-        targets,
+        rows,
         s,
         t,
         &mut parents[..n],
@@ -126,59 +83,21 @@ fn judge_in(
     )
 }
 
-// Judges a pair: 1 to 5, then 13, the smallest, or 0 with the answer. s = t is a no.
-pub fn judge(starts: &[u32], targets: &[u32], s: u32, t: u32) -> Judgement
-    ensures { JudgeDone (record { starts = starts.now; targets = targets.now }) s t result }
+// Judges a pair, s = t among them, which is a no: the number of vertices in U for a yes, None for a no. A refusal is 1 to 5, then 13, the smallest.
+pub fn judge(rows: &Rows, s: u32, t: u32) -> Result<Option<u32>, Refusal>
+    ensures { JudgeDone rows.now s t (judgement_of result) }
 {
-    let number = table::check(starts, targets);
-    if number != 0 {
-        return refused(number);
+    rows.check()?;
+    let n = rows.vertices();
+    if s as usize >= n || t as usize >= n {
+        return Err(Refusal::Vertex);
     }
-    let n = starts.len() - 1;
-    if s as usize >= n {
-        return refused(13);
-    }
-    if t as usize >= n {
-        return refused(13);
-    }
-    if n <= SMALL {
-        let mut parents = [0u32; SMALL];
-        let mut pending = [0u32; SMALL];
-        let mut order = [0u32; SMALL];
-        return judge_in(
-            starts,
-            targets,
-            s,
-            t,
-            &mut parents,
-            &mut pending,
-            &mut order,
-        );
-    }
-    if n <= MIDDLING {
-        let mut parents = [0u32; MIDDLING];
-        let mut pending = [0u32; MIDDLING];
-        let mut order = [0u32; MIDDLING];
-        return judge_in(
-            starts,
-            targets,
-            s,
-            t,
-            &mut parents,
-            &mut pending,
-            &mut order,
-        );
-    }
-    let mut parents = [0u32; VERTEX_LIMIT];
-    let mut pending = [0u32; VERTEX_LIMIT];
-    let mut order = [0u32; VERTEX_LIMIT];
-    judge_in(
-        starts,
-        targets,
-        s,
-        t,
-        &mut parents,
-        &mut pending,
-        &mut order,
-    )
+    let answer = if n <= SMALL {
+        judge_in::<SMALL>(rows, s, t)
+    } else if n <= MIDDLING {
+        judge_in::<MIDDLING>(rows, s, t)
+    } else {
+        judge_in::<VERTEX_LIMIT>(rows, s, t)
+    };
+    Ok(answer)
 }

@@ -1,12 +1,8 @@
 -- Laws of keeping a path: where the visited vertices are led and passed, the path by next is the kept one, what is gone are the dropped vertices, and the counts
 -- come to what the fold rule asks. Assumes nothing.
-use Prim.Native.Nat.{ℕ, zero, suc, ◌+◌, ◌≤◌, ◌<◌}
-use mathlib.Core.Path.{◌≡◌, refl, sym, ◌∙◌, ap}
-use mathlib.Core.Logic.{◌↔◌, ⊎_elim}
-use mathlib.Core.List.{List, [], ◌∷◌, ◌++◌, Memᴰ}
-use native.Mathlib.Omega.{arith}
+use Rattle.std.proofs.Common.{ℕ, zero, suc, ◌+◌, ◌≤◌, ◌<◌, ◌≡◌, refl, sym, ◌∙◌, ap, ◌↔◌, ⊎_elim, List, [], ◌∷◌, ◌++◌, arith, length, get_or}
+use mathlib.Core.List.{Memᴰ}
 use native.Mathlib.Decide.{ℕ_discrete}
-use lib.ListN.{length, get_or}
 use Rattle.table.specs.Limits.{read_limit}
 use Rattle.table.specs.Table.{Below, Table, size, edges}
 use Rattle.bubble.specs.Superbubble.{Interior}
@@ -24,15 +20,11 @@ use Rattle.rule.specs.Next.{no_row, ByNext}
 use Rattle.rule.specs.declared.Choosing.{Choosing}
 use Rattle.sharing.specs.Sharing.{onward, Shareable, Shared}
 use Rattle.kept.specs.declared.paths.Along.{Along}
-use Rattle.kept.specs.Steps.{Settleable, Led, Siftable, Sifted}
+use Rattle.kept.specs.Steps.{Led, Siftable, Sifted}
 use Rattle.kept.specs.Keeping.{Keepable, KeptDone}
 use Rattle.kept.proofs.OrderLaws.{inside, visit_place, visited_below, child_later}
 use Rattle.kept.proofs.PassLaws.{length_puts, puts_listed, puts_other, gone_place, gone_distinct, gone_below, gone_sum}
 use Rattle.kept.proofs.PathLaws.{by_next_follows, arm_onward, passed_place, arm_gone, passing_path}
-
-pub keep_settleable : {C : CandidateSet} {table : Table} {visited : List ℕ} {t : ℕ} {best next out : List ℕ} → Keepable C table visited t best next out
-    → Settleable table visited t 0 best next
-keep_settleable p = record { counted = p.counted; order = p.order; bounded = omega arith; best_room = p.best_room; next_room = p.next_room }
 
 module _ {C : CandidateSet} {by : Choosing} {table : Table} {visited : List ℕ} {t : ℕ} {best next out led : List ℕ} (p : Keepable C table visited t best next out)
     (next_long : length led ≡ length next) (g : Led by table visited t next led) where

@@ -1,11 +1,6 @@
 -- Laws of the rounds that settle the visited vertices: the path by the children ends, and it is the kept one after one round by the sum, after two by the weakest vertex. Assumes nothing.
-use Prim.Native.Nat.{ℕ, zero, suc, ◌+◌, ◌≤◌, ◌<◌}
-use mathlib.Core.Path.{◌≡◌, sym, ◌∙◌}
-use mathlib.Core.Logic.{◌≢◌}
-use mathlib.Core.List.{List, [], ◌∷◌}
-use native.Mathlib.Omega.{arith}
+use Rattle.std.proofs.Common.{ℕ, zero, suc, ◌+◌, ◌≤◌, ◌<◌, ◌≡◌, sym, ◌∙◌, ◌≢◌, List, [], ◌∷◌, arith, length, get_or}
 use native.Mathlib.Decide.{ℕ_discrete}
-use lib.ListN.{length, get_or}
 use Rattle.table.specs.Limits.{read_limit}
 use Rattle.table.specs.Table.{Table, size, edges}
 use Rattle.table.proofs.RowLaws.{edge_below}

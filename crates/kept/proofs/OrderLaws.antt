@@ -1,11 +1,6 @@
 -- Laws of the visiting order: its entries are U less the exit, and a child of an entry is the exit or a later entry. Assumes nothing.
-use Prim.Native.Nat.{ℕ, ◌<◌}
-use mathlib.Core.Path.{◌≡◌, sym, ◌∙◌}
-use mathlib.Core.Logic.{◌≢◌}
-use mathlib.Core.List.{List}
-use native.Mathlib.Omega.{arith}
-use lib.ListN.{length, get_or, take}
-use lib.Seq.{length-take-le, take-length, get_or-take}
+use Rattle.std.proofs.Common.{ℕ, ◌<◌, ◌≡◌, sym, ◌∙◌, ◌≢◌, List, arith, length, get_or, take, length-take-le, get_or-take}
+use lib.Seq.{take-length}
 use Rattle.table.specs.Table.{vertices, Below, Edge}
 use Rattle.bubble.specs.Superbubble.{F, F.on}
 use Rattle.bubble.proofs.Facts.{successor}

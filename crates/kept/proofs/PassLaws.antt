@@ -1,14 +1,8 @@
 -- Laws of passing the visited vertices: those that are gone are different, so the sum of their counts fits, and one vertex more is passed. Assumes nothing.
-use Prim.Native.Nat.{ℕ, ◌+◌, ◌≤◌, ◌<◌}
-use mathlib.Core.Path.{◌≡◌, refl, sym, ◌∙◌, ap}
-use mathlib.Core.Logic.{⊎_elim}
+use Rattle.std.proofs.Common.{ℕ, ◌+◌, ◌≤◌, ◌<◌, ◌≡◌, refl, sym, ◌∙◌, ap, ⊎_elim, List, [], ◌∷◌, ◌++◌, add-one, arith, length, get_or, length-set, length-append, get_or-set_same, get_or-set_other}
 use mathlib.Core.List.Memᴰ
-use mathlib.Core.List.{List, [], ◌∷◌, ◌++◌, Memᴰ}
-use native.Mathlib.Numerals.{add-one}
-use native.Mathlib.Omega.{arith}
+use mathlib.Core.List.{Memᴰ}
 use native.Mathlib.Decide.{ℕ_discrete}
-use lib.ListN.{length, get_or, length-set, length-append}
-use lib.Seq.{get_or-set_same, get_or-set_other}
 use Rattle.table.specs.Limits.{read_limit}
 use Rattle.table.proofs.SumLaws.{count_most}
 use Rattle.bubble.specs.Distinct.{Distinct, Distinct.empty, Distinct.fresh}

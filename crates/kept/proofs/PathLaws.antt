@@ -1,11 +1,7 @@
 -- Laws of the path by next along the visiting order: the order leads along it to the exit, and what is not on it is gone. Assumes nothing.
-use Prim.Native.Nat.{ℕ, ◌≤◌, ◌<◌}
-use mathlib.Core.Path.{◌≡◌, refl, sym, ap, ◌∙◌}
-use mathlib.Core.Logic.{◌≢◌, ◌⊎◌, inl, inr, ⊎_elim}
-use mathlib.Core.List.{List, [], ◌∷◌, ◌++◌, Memᴰ}
-use native.Mathlib.Omega.{arith}
+use Rattle.std.proofs.Common.{ℕ, ◌≤◌, ◌<◌, ◌≡◌, refl, sym, ap, ◌∙◌, ◌≢◌, ◌⊎◌, inl, inr, ⊎_elim, List, [], ◌∷◌, ◌++◌, arith, length, get_or}
+use mathlib.Core.List.{Memᴰ}
 use native.Mathlib.Decide.{ℕ_discrete}
-use lib.ListN.{length, get_or}
 use Rattle.rule.specs.Lists.{Follows, Follows.here, Follows.later}
 use Rattle.rule.specs.Tables.{count_of}
 use Rattle.rule.proofs.Following.{Begins, Begins.begins, follows_cases, follows_head}

@@ -1,12 +1,6 @@
 -- Laws of settling the visited vertices from the last to the first: the next one's children can be weighed, and with the best of them it is settled. Assumes nothing.
-use Prim.Native.Nat.{ℕ, zero, suc, ◌+◌, ◌≤◌, ◌<◌}
-use mathlib.Core.Path.{◌≡◌, refl, sym, ◌∙◌, ap}
-use mathlib.Core.Logic.{◌≢◌}
-use mathlib.Core.List.{List}
-use native.Mathlib.Omega.{arith}
+use Rattle.std.proofs.Common.{ℕ, zero, suc, ◌+◌, ◌≤◌, ◌<◌, ◌≡◌, refl, sym, ◌∙◌, ap, ◌≢◌, List, arith, length, get_or, set, drop, get_or-set_same, get_or-set_other}
 use native.Mathlib.Decide.{ℕ_discrete, dec_lt}
-use lib.ListN.{length, get_or, set, drop}
-use lib.Seq.{get_or-set_same, get_or-set_other}
 use Rattle.table.specs.Limits.{read_limit}
 use Rattle.table.specs.Table.{row, Rises, Table, size, edges}
 use Rattle.table.proofs.RowLaws.{edge_below, rises_before}
@@ -29,12 +23,7 @@ climbs_to xs r i j h l =
       | no n ↦ omega (arith, rises_before xs r i j (omega arith) l)
     ]
 
--- from a vertex after the first the exit gains the bound
-pub end_later : (bound k : ℕ) → k ≢ 0 → end_at bound k ≡ bound
-end_later bound zero n = absurd (n refl)
-end_later bound (suc k) n = refl
-
--- and from none more
+-- from no vertex does the exit gain more than the bound
 end_most : (bound k : ℕ) → end_at bound k ≤ bound
 end_most bound zero = omega arith
 end_most bound (suc k) = omega arith

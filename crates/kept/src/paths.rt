@@ -9,7 +9,7 @@ ghost use Rattle.kept.specs.Keeping.{Keepable, KeptDone};
 use children::choose;
 use rule::{Choosing, Mode};
 use sharing::share;
-use table::READ_LIMIT;
+use table::{READ_LIMIT, Table};
 
 // The next vertex of the kept path, its inner vertices so far, and the sum of the counts dropped so far.
 #[derive(Clone, Copy)]
@@ -32,39 +32,20 @@ fn end_from(k: usize, bound: u64) -> u64
 // The best that a path gains from each visited vertex on, and the child that leads to it, the last vertex first. The exit gains the bound, and nothing from the entrance.
 fn settle(
     by: Choosing,
-    starts: &[u32],
-    targets: &[u32],
-    counts: &[u64],
+    table: &Table,
     visited: &[u32],
     t: u32,
     bound: u64,
     best: &mut [u64],
     next: &mut [u32],
 )
-    requires { Settleable
-        (record { rows = record { starts = starts.now; targets = targets.now }; counts = counts.now })
-        visited.now
-        t
-        bound
-        best.old
-        next.old }
-    ensures { SettledFrom
-        by
-        (record { rows = record { starts = starts.now; targets = targets.now }; counts = counts.now })
-        visited.now
-        t
-        bound
-        next.old
-        0
-        best.new
-        next.new }
+    requires { Settleable table.now visited.now t bound best.old next.old }
+    ensures { SettledFrom by table.now visited.now t bound next.old 0 best.new next.new }
 {
-    let mut k = visited.len();
-    while k > 0 {
-        k -= 1;
+    for k in (0..visited.len()).rev() {
         let v = visited[k] as usize;
         let end = end_from(k, bound);
-        let choice = choose(by, table::row(starts, targets, v), counts, best, t, end);
+        let choice = choose(by, table.rows.row(v), table.counts, best, t, end);
         best[v] = choice.gain;
         next[v] = choice.child;
     }
@@ -72,50 +53,17 @@ fn settle(
 
 // Settles the visited vertices so that the children lead from the entrance along the kept path. By the weakest vertex this takes two rounds: the first finds
 // how strong the strongest path is, and the second asks no more than that of any vertex, so that all that reach it are equal and the smallest child is taken.
-fn lead(
-    by: Choosing,
-    starts: &[u32],
-    targets: &[u32],
-    counts: &[u64],
-    visited: &[u32],
-    t: u32,
-    best: &mut [u64],
-    next: &mut [u32],
-)
-    requires { Settleable
-        (record { rows = record { starts = starts.now; targets = targets.now }; counts = counts.now })
-        visited.now
-        t
-        0
-        best.old
-        next.old }
-    ensures { Led
-        by
-        (record { rows = record { starts = starts.now; targets = targets.now }; counts = counts.now })
-        visited.now
-        t
-        next.old
-        next.new }
+fn lead(by: Choosing, table: &Table, visited: &[u32], t: u32, best: &mut [u64], next: &mut [u32])
+    requires { Settleable table.now visited.now t 0 best.old next.old }
+    ensures { Led by table.now visited.now t next.old next.new }
 {
     match by {
-        Choosing::Sum => settle(by, starts, targets, counts, visited, t, 0, best, next),
+        Choosing::Sum => settle(by, table, visited, t, 0, best, next),
         Choosing::Weakest => {
-            settle(
-                by,
-                starts,
-                targets,
-                counts,
-                visited,
-                t,
-                READ_LIMIT + 1,
-                best,
-                next,
-            );
+            settle(by, table, visited, t, READ_LIMIT + 1, best, next);
             let s = visited[0] as usize;
             let strongest = best[s];
-            settle(
-                by, starts, targets, counts, visited, t, strongest, best, next,
-            );
+            settle(by, table, visited, t, strongest, best, next);
         }
     }
 }
@@ -130,16 +78,7 @@ fn keep_or_drop(
     along: Along,
 ) -> Along
     requires { Partable counts.now next.old out.old v along }
-    ensures { Step
-        counts.now
-        next.old
-        out.old
-        rowless
-        v
-        along
-        next.new
-        out.new
-        result }
+    ensures { Step counts.now next.old out.old rowless v along next.new out.new result }
 {
     let x = v as usize;
     if v == along.kept {
@@ -179,10 +118,8 @@ fn sift(counts: &[u64], visited: &[u32], next: &mut [u32], out: &mut [u64], rowl
         inner: 0,
         dropped: 0,
     };
-    let mut k = 1;
-    while k < visited.len() {
-        along = keep_or_drop(counts, next, out, rowless, visited[k], along);
-        k += 1;
+    for &v in &visited[1..] {
+        along = keep_or_drop(counts, next, out, rowless, v, along);
     }
     along
 }
@@ -191,9 +128,7 @@ fn sift(counts: &[u64], visited: &[u32], next: &mut [u32], out: &mut [u64], rowl
 // dropped one; `out` takes 0 for each dropped vertex, and for each inner vertex of the path its count and its portion of theirs.
 pub fn keep(
     mode: Mode,
-    starts: &[u32],
-    targets: &[u32],
-    counts: &[u64],
+    table: &Table,
     visited: &[u32],
     t: u32,
     best: &mut [u64],
@@ -202,7 +137,7 @@ pub fn keep(
 )
     requires { Keepable
         (the_fold mode).candidates
-        (record { rows = record { starts = starts.now; targets = targets.now }; counts = counts.now })
+        table.now
         visited.now
         t
         best.old
@@ -211,7 +146,7 @@ pub fn keep(
     ensures { KeptDone
         (the_fold mode).candidates
         (the_fold mode).rule
-        (record { rows = record { starts = starts.now; targets = targets.now }; counts = counts.now })
+        table.now
         (get_or visited.now 0 0)
         t
         best.old
@@ -222,11 +157,11 @@ pub fn keep(
         out.new }
 {
     let by = mode.by;
-    lead(by, starts, targets, counts, visited, t, best, next);
-    let rowless = starts.len() as u32;
-    let along = sift(counts, visited, next, out, rowless);
+    lead(by, table, visited, t, best, next);
+    let rowless = table.rows.vertices() as u32 + 1;
+    let along = sift(table.counts, visited, next, out, rowless);
     let inner = along.inner;
     let dropped = along.dropped;
     let s = visited[0];
-    share(counts, next, out, s, inner, dropped);
+    share(table.counts, next, out, s, inner, dropped);
 }

@@ -1,6 +1,5 @@
 -- The laws of `layout`, in the order in which one reads them. Assumes nothing.
 pub mod ByteLaws
 pub mod LengthLaws
-pub mod HeaderLaws
 pub mod ImageLaws
 pub mod Limits

@@ -4,7 +4,7 @@ ghost use Rattle.layout.specs.Bytes.{over};
 ghost use Rattle.layout.specs.Image.{image_length, largest_image, header_of};
 ghost use Rattle.layout.specs.Lengths.{length_count};
 
-use crate::bytes::put_word;
+use crate::bytes::Number;
 
 // What a header says of its image: version, n and m.
 #[derive(Clone, Copy)]
@@ -18,7 +18,8 @@ impl Header {
     // The bytes S B T.
     pub const MARK: [u8; 3] = [83, 66, 84];
 
-    // The versions that are read and written. The second has lengths.
+    // The versions that are read and written. The second has lengths. They stay numbers and are no enum: `length`, `lengths` and `writing::write_version` promise something of
+    // every number.
     pub const VERSION_1: u32 = 1;
 
     pub const VERSION_2: u32 = 2;
@@ -43,10 +44,7 @@ impl Header {
     pub fn lengths(version: u32, n: usize) -> usize
         ensures { result ≡ length_count version n }
     {
-        if version == Header::VERSION_2 {
-            return n;
-        }
-        0
+        if version == Header::VERSION_2 { n } else { 0 }
     }
 
     // The length of an image by its version, n and m.
@@ -62,15 +60,9 @@ impl Header {
         requires { 13 ≤ length out.old }
         ensures { out.new ≡ over out.old 0 (header_of self.version self.vertices self.edges) }
     {
-        let version = self.version;
-        let n = self.vertices;
-        let m = self.edges;
-        out[0] = Header::MARK[0];
-        out[1] = Header::MARK[1];
-        out[2] = Header::MARK[2];
-        out[3] = (version % 256) as u8;
-        out[4] = (version / 256 % 256) as u8;
-        put_word(out, 5, n);
-        put_word(out, 9, m);
+        out[..3].copy_from_slice(&Header::MARK);
+        ((self.version % 65_536) as u16).put_at(out, 3);
+        self.vertices.put_at(out, 5);
+        self.edges.put_at(out, 9);
     }
 }

@@ -2,10 +2,11 @@
 #![tactic(auto)]
 
 mod bytes;
+mod contents;
 mod header;
+mod spelled;
 
-pub use bytes::{
-    half, long, read_halves, read_longs, read_words, wide, word, write_halves, write_longs,
-    write_words,
-};
+pub use bytes::{Number, read_numbers, write_numbers};
+pub use contents::{Contents, none_zero};
 pub use header::Header;
+pub use spelled::Spelled;

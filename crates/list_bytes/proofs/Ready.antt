@@ -1,23 +1,17 @@
 -- What list leaves of a well-formed table: its list, which is short enough to be put; and what is answered of its image. Assumes nothing.
-use Prim.Native.Nat.{ℕ, ◌*◌, ◌≤◌}
-use mathlib.Core.Path.{◌≡◌, subst}
-use mathlib.Core.List.{List}
-use native.Mathlib.Omega.{arith}
-use lib.ListN.{length, take}
+use Rattle.std.proofs.Common.{ℕ, ◌*◌, ◌≤◌, ◌≡◌, subst, List, arith, length, take}
 use Rattle.table.specs.Limits.{vertex_limit}
-use Rattle.table.specs.Table.{Rows, Table, edges, Sound, Below}
+use Rattle.table.specs.Table.{Rows, edges, Sound, Below}
 use Rattle.table.proofs.VerdictLaws.{accepts}
 use Rattle.table.proofs.RowLaws.{edges_below}
 use Rattle.layout.specs.Image.{table_of}
-use Rattle.image.specs.declared.header.Sizes.{Sizes}
-use Rattle.image.specs.Looking.{image_demands, Looked}
+use Rattle.image.specs.Looking.{Seen, image_demands, Looked}
 use Rattle.image.proofs.LookLaws.{looked_met}
 use Rattle.bubble.specs.Superbubble.{Superbubble}
-use Rattle.listing.specs.declared.Found.{Found}
-use Rattle.listing.specs.Listing.{Listed, ListDone}
+use Rattle.listing.specs.Listing.{Found, Listed, ListDone}
 use Rattle.listing.proofs.SoundList.{sound_accepted, front_listed, listed_most, listed_below}
-use Rattle.printing.specs.declared.Answer.{Answer}
 use Rattle.printing.specs.Put.{Printed}
+use Rattle.printing.specs.Answered.{Told}
 use Rattle.printing.proofs.AnsweredLaws.{text_answers}
 use Rattle.list_bytes.specs.Lines.{ListText, ListAnswer}
 
@@ -39,9 +33,8 @@ list_ready ok room done =
       below = λ k k-in. omega (arith, listed_below (edges_below ok) listed k k-in);
     }
 
--- of an image that look accepts the text of its table's list is the answer
-pub image_listed : {image : List ℕ} {looked : Sizes} {table : Table} {out out' : List ℕ} {answer : Answer} → Looked image looked → looked.number ≡ 0
-    → table ≡ table_of image → answer.number ≡ 0 → Printed (ListText table.rows) out out' answer.length → ListAnswer image out out' answer
+-- of an image that look accepts the text of the list of its rows is the answer
+pub image_listed : {image : List ℕ} {looked : Seen} {rows : Rows} {out out' : List ℕ} {answer : Told} → Looked image looked → looked.number ≡ 0
+    → rows ≡ (table_of image).rows → answer.number ≡ 0 → Printed (ListText rows) out out' answer.length → ListAnswer image out out' answer
 image_listed {image} sees e same none put =
-    text_answers none (accepts (image_demands image) (looked_met sees e))
-    (subst (λ (table : Table). ListText table.rows put.printed) same put.right) put.at_front
+    text_answers none (accepts (image_demands image) (looked_met sees e)) (subst (λ (rows : Rows). ListText rows put.printed) same put.right) put.at_front

@@ -5,9 +5,8 @@ use Rattle.layout.specs.Image.{table_of}
 use Rattle.image.specs.Looking.{image_demands}
 use Rattle.bubble.specs.Superbubble.{Superbubble}
 use Rattle.listing.specs.Listing.{Listed}
-use Rattle.printing.specs.declared.Answer.{Answer}
 use Rattle.texts.specs.Text.{text, list_lines}
-use Rattle.printing.specs.Answered.{Answered}
+use Rattle.printing.specs.Answered.{Told, Answered}
 
 -- the bytes are the text of the list of a table's superbubbles
 pub record ListText (rows : Rows) (printed : List ℕ) : Type 0 where
@@ -17,5 +16,5 @@ pub record ListText (rows : Rows) (printed : List ℕ) : Type 0 where
   pub spelled : printed ≡ text (list_lines pairs found)
 
 -- the text of the list of the table that stands in an image, or of the refusal; and the buffer, before and after
-abbrev pub ListAnswer : List ℕ → List ℕ → List ℕ → Answer → Type 0
+abbrev pub ListAnswer : List ℕ → List ℕ → List ℕ → Told → Type 0
 ListAnswer image = Answered (image_demands image) (ListText (table_of image).rows)

@@ -1,16 +1,12 @@
 -- Two results that the contract of list allows coincide: number, how many were found, and all memory lent. Assumes nothing.
-use Prim.Native.Nat.{ℕ, ◌*◌}
-use mathlib.Core.Path.{◌≡◌, sym, ap, ◌∙◌}
-use mathlib.Core.List.{List, [], ◌∷◌, ◌++◌}
+use Rattle.std.proofs.Common.{ℕ, ◌*◌, ◌≡◌, sym, ap, ◌∙◌, List, [], ◌∷◌, ◌++◌, drop}
 use native.Mathlib.Decide.{ℕ_discrete}
-use lib.ListN.{drop}
 use Rattle.table.specs.Table.{Rows}
 use Rattle.table.specs.Numbers.{table_demands}
 use Rattle.table.proofs.VerdictLaws.{verdict_unique}
 use Rattle.bubble.specs.Superbubble.{Superbubble}
 use Rattle.bubble.proofs.Unique.{exit_unique}
-use Rattle.listing.specs.declared.Found.{Found}
-use Rattle.listing.specs.Listing.{Listed, list_room, ListDone}
+use Rattle.listing.specs.Listing.{Found, Listed, list_room, ListDone}
 use Rattle.listing.proofs.ListLaws.{listed_determined}
 
 -- the list of a graph's superbubbles is determined

@@ -1,26 +1,13 @@
 -- Laws of lists of pairs: one entrance more, and that a list is determined by what it lists. Assumes nothing.
-use Prim.Native.Nat.{ℕ, zero, suc, ◌+◌, ◌*◌, ◌-◌, ◌/◌, ◌%◌, ◌≤◌, ◌<◌}
-use mathlib.Core.Path.{◌≡◌, refl, sym, ap, ◌∙◌}
-use mathlib.Core.List.{List, [], ◌∷◌, ◌++◌}
-use native.Mathlib.Nat.{le_refl, le_of_lt}
+use Rattle.std.proofs.Common.{ℕ, zero, suc, ◌+◌, ◌*◌, ◌-◌, ◌/◌, ◌%◌, ◌≤◌, ◌<◌, ◌≡◌, refl, sym}
+use Rattle.std.proofs.Common.{ap, ◌∙◌, List, [], ◌∷◌, ◌++◌, le_refl, le_of_lt, arith, length, get_or, length-append, ext_get_or, get_or-append-add}
 use native.Mathlib.Decide.{ℕ_discrete, dec_lt}
-use native.Mathlib.Omega.{arith}
-use lib.ListN.{length, get_or, length-append, get_or-append}
-use lib.Seq.{ext_get_or, get_or-append-add}
+use lib.ListN.{get_or-append}
 use Rattle.listing.specs.Listing.{Stands, Listed}
 
 -- the pairs of P whose entrance is below v
 abbrev pub Before : (ℕ → ℕ → Type 0) → ℕ → ℕ → ℕ → Type 0
 Before P v s t = (s < v) × P s t
-
-pub listed_none : (P : ℕ → ℕ → Type 0) → Listed (Before P 0) [] 0
-listed_none P =
-    record {
-      long = refl;
-      rising = λ i h. absurd (let no : ⊥ = omega arith in no);
-      sound = λ i h. absurd (let no : ⊥ = omega arith in no);
-      whole = λ s t p. absurd (let no : ⊥ = omega (arith, p.0) in no);
-    }
 
 -- lists of the same pairs
 pub listed_same : {P Q : ℕ → ℕ → Type 0} {pairs : List ℕ} {found : ℕ} → Listed P pairs found → ((s t : ℕ) → P s t → Q s t) → ((s t : ℕ) → Q s t → P s t)

@@ -1,12 +1,6 @@
 -- The scan over all entrances: what holds after each, from the first to the last. Assumes nothing.
-use Prim.Native.Nat.{ℕ, ◌+◌, ◌*◌, ◌≤◌, ◌<◌}
-use mathlib.Core.Path.{◌≡◌, refl, ap, ◌∙◌}
-use mathlib.Core.List.{List, [], ◌∷◌, ◌++◌, append_assoc}
-use native.Mathlib.Omega.{arith}
-use lib.ListN.{length, take, drop, set, length-append, length-drop}
-use lib.Seq.{length-take-le}
-use Rattle.table.specs.Limits.{edge_limit}
-use Rattle.table.specs.Table.{Below, Rows, size, edges, Sound}
+use Rattle.std.proofs.Common.{ℕ, ◌+◌, ◌*◌, ◌≤◌, ◌<◌, ◌≡◌, ap, ◌∙◌, List, [], ◌∷◌, ◌++◌, append_assoc, arith, length, drop, set, length-append, Option, Some, None}
+use Rattle.table.specs.Table.{Rows, size, edges, Sound}
 use Rattle.table.proofs.FrontLaws.{front_more}
 use Rattle.table.proofs.RowLaws.{edges_below}
 use Rattle.bubble.specs.Superbubble.{Superbubble}
@@ -14,11 +8,10 @@ use Rattle.bubble.proofs.Number.{entrance_below}
 use Rattle.bubble.proofs.Unique.{exit_unique}
 use Rattle.parents.specs.Parents.{Parents}
 use Rattle.search.specs.declared.Exit.{Exit}
-use Rattle.search.specs.declared.Exit.TheVariants.{At, Nothing}
-use Rattle.search.specs.Search.{Searchable, Sought}
+use Rattle.search.specs.Search.{Sought}
 use Rattle.listing.specs.Listing.{ListedAt}
-use Rattle.listing.specs.Steps.{Line, ListReady, ListRoom}
-use Rattle.listing.proofs.ListLaws.{Before, listed_none, listed_same, listed_without, listed_more}
+use Rattle.listing.specs.Steps.{Line}
+use Rattle.listing.proofs.ListLaws.{Before, listed_same, listed_without, listed_more}
 
 -- the superbubbles whose entrance is below s stand at the front of the slice, and what the search needs is as it was
 pub record Scan (rows : Rows) (parents pending order out out' : List ℕ) (found s : ℕ) : Type 0 where
@@ -31,38 +24,6 @@ pub record Scan (rows : Rows) (parents pending order out out' : List ℕ) (found
   pub room : 2 * size rows ≤ length out
   pub lines : ListedAt (Before (Superbubble (edges rows)) s) out out' found
 
--- the first n of slices of n or more
-pub fronts_ready : {rows : Rows} {parents pending order out : List ℕ} → ListRoom rows parents pending order out
-    → ListReady rows (take (size rows) parents) (take (size rows) pending) (take (size rows) order) out
-fronts_ready {rows} {parents} {pending} {order} lent =
-    record {
-      sound = lent.sound;
-      parents_long = length-take-le (size rows) parents lent.parents_room;
-      pending_long = length-take-le (size rows) pending lent.pending_room;
-      order_long = length-take-le (size rows) order lent.order_room;
-      room = lent.room;
-    }
-
--- the parents can be counted
-pub ready_counts : {rows : Rows} {parents pending order out : List ℕ} → ListReady rows parents pending order out
-    → Below (length parents) rows.targets × (length rows.targets ≤ edge_limit)
-ready_counts ready = (rw ready.parents_long ready.sound.targets_below, ready.sound.most_edges)
-
--- no entrance is passed yet
-pub scan_start : {rows : Rows} {lent-parents lent-pending parents pending order out : List ℕ} → ListReady rows lent-parents lent-pending order out
-    → Parents (length lent-parents) rows.targets parents → pending ≡ parents → Scan rows parents pending order out out 0 0
-scan_start {rows} ready counted same =
-    record {
-      sound = ready.sound;
-      counted = rw ready.parents_long at counted;
-      whole = same;
-      order_room = omega (arith, ready.order_long);
-      passed = omega arith;
-      few = omega arith;
-      room = ready.room;
-      lines = record { pairs = []; listed = listed_none (Superbubble (edges rows)); front = refl };
-    }
-
 -- two numbers more at the front of a slice
 two_more : (front list : List ℕ) (a b k : ℕ) → length front ≡ k → k + 2 ≤ length list
     → set (set (front ++ drop k list) k a) (k + 1) b ≡ front ++ a ∷ b ∷ [] ++ drop (k + 2) list
@@ -74,28 +35,12 @@ two_more front list a b k e h =
     ∙ ap (λ (l : List ℕ). l ++ drop (k + 2) list) (append_assoc front (a ∷ []) (b ∷ []))
 
 module _ {rows : Rows} {parents pending order out out' : List ℕ} {found s : ℕ} (scan : Scan rows parents pending order out out' found s) where
-  pub scan_searchable : s < size rows → Searchable rows.starts rows.targets parents pending order s
-  scan_searchable h =
-      record {
-        well_formed = scan.sound;
-        vertex = h;
-        counted = scan.counted;
-        whole = scan.whole;
-        room = scan.order_room;
-      }
-
-  -- the slice keeps its length
-  pub scan_length : length out' ≡ length out
-  scan_length =
-      let lines = scan.lines in
-      ap length lines.front ∙ length-append lines.pairs (drop (2 * found) out)
-      ∙ omega (arith, lines.listed.long, length-drop (2 * found) out, scan.few, scan.passed, scan.room)
-
-  next_lines : {pending' order' out'' : List ℕ} {r : ℕ} (exit : Exit) → s < size rows → Sought rows.starts rows.targets pending order pending' order' s exit
+  next_lines : {pending' order' out'' : List ℕ} {r : ℕ} (exit : Option Exit) → s < size rows → Sought rows.starts rows.targets pending order pending' order' s exit
       → Line out' out'' found s exit r → (r ≤ s + 1) × ListedAt (Before (Superbubble (edges rows)) (s + 1)) out out'' r
-  next_lines (At t k) h sought line =
+  next_lines (Some exit) h sought line =
       let lines = scan.lines in
       let P = Superbubble (edges rows) in
+      let t = exit.vertex in
       let bubble : P s t = sought.searched.superbubble in
       let twice : 2 * (found + 1) ≡ 2 * found + 2 = omega arith in (
         omega (arith, line.0, scan.few),
@@ -110,7 +55,7 @@ module _ {rows : Rows} {parents pending order out out' : List ℕ} {found s : �
                   ∙ two_more lines.pairs out s t (2 * found) lines.listed.long (omega (arith, scan.few, scan.room)));
             }),
       )
-  next_lines Nothing h sought line =
+  next_lines None h sought line =
       let lines = scan.lines in (
         omega (arith, line.0, scan.few),
         rw line.0
@@ -122,7 +67,7 @@ module _ {rows : Rows} {parents pending order out out' : List ℕ} {found s : �
       )
 
   -- one entrance more
-  pub scan_more : {pending' order' out'' : List ℕ} {r : ℕ} (exit : Exit) → s < size rows → Sought rows.starts rows.targets pending order pending' order' s exit
+  pub scan_more : {pending' order' out'' : List ℕ} {r : ℕ} (exit : Option Exit) → s < size rows → Sought rows.starts rows.targets pending order pending' order' s exit
       → Line out' out'' found s exit r → Scan rows parents pending' order' out out'' r (s + 1)
   scan_more exit h sought line =
       let next = next_lines exit h sought line in

@@ -1,13 +1,6 @@
 -- The list of a well-formed table: where there is room nothing is refused, there are at most n superbubbles, and each is of two vertices. Assumes nothing.
-use Prim.Native.Nat.{ℕ, zero, suc, ◌+◌, ◌*◌, ◌/◌, ◌%◌, ◌≤◌, ◌<◌}
-use mathlib.Core.Path.{◌≡◌, refl, ap, ◌∙◌}
-use mathlib.Core.Logic.{inr}
-use mathlib.Core.List.{List, [], ◌∷◌, ◌++◌}
+use Rattle.std.proofs.Common.{ℕ, zero, suc, ◌+◌, ◌*◌, ◌/◌, ◌%◌, ◌≤◌, ◌<◌, ◌≡◌, refl, ap, ◌∙◌, inr, List, [], ◌∷◌, ◌++◌, add-one, arith, length, get_or, take, drop, take_at}
 use native.Mathlib.Decide.{ℕ_discrete}
-use native.Mathlib.Numerals.{add-one}
-use native.Mathlib.Omega.{arith}
-use lib.ListN.{length, get_or, take, drop}
-use lib.Seq.{take_at}
 use Rattle.table.specs.Table.{Rows, size, Sound}
 use Rattle.table.specs.Table.{Below as NumbersBelow}
 use Rattle.table.specs.Numbers.{table_demands}
@@ -15,8 +8,7 @@ use Rattle.table.proofs.VerdictLaws.{goes_on, verdict_unique}
 use Rattle.table.proofs.Accepted.{table_met, well_formed_accepted}
 use Rattle.bubble.specs.Superbubble.{Superbubble}
 use Rattle.bubble.proofs.Number.{Below, entrance_below, exit_below}
-use Rattle.listing.specs.declared.Found.{Found}
-use Rattle.listing.specs.Listing.{Listed, list_room, ListedAt, ListDone}
+use Rattle.listing.specs.Listing.{Found, Listed, list_room, ListedAt, ListDone}
 
 -- a well-formed table with room for its list is accepted
 pub sound_accepted : {rows : Rows} {out out' : List ℕ} {answer : Found} → Sound rows → 2 * size rows ≤ length out → ListDone rows out out' answer

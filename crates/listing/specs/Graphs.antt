@@ -2,8 +2,7 @@
 use Rattle.std.specs.Prelude.{ℕ, ◌*◌, ◌≤◌, ◌≡◌, List, [], ◌∷◌, length, take}
 use Rattle.table.specs.Table.{Rows, size, edges, Sound}
 use Rattle.bubble.specs.Superbubble.{Superbubble}
-use Rattle.listing.specs.declared.Found.{Found}
-use Rattle.listing.specs.Listing.{Listed, ListDone}
+use Rattle.listing.specs.Listing.{Found, Listed, ListDone}
 
 -- a table, and the list printed for it
 pub record Example : Type 0 where

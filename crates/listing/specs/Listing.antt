@@ -1,10 +1,21 @@
 -- What list states: the number, how many were found, and all memory lent, on a refusal too. Assumes nothing.
-use Rattle.std.specs.Prelude.{ℕ, ◌+◌, ◌*◌, ◌≤◌, ◌<◌, ◌≡◌, List, [], ◌∷◌, ◌++◌, length, get_or, drop}
+use Rattle.std.specs.Prelude.{ℕ, ◌+◌, ◌*◌, ◌≤◌, ◌<◌, ◌≡◌, List, [], ◌∷◌, ◌++◌, Result, Ok, Err, length, get_or, drop}
 use Rattle.table.specs.Verdict.{Demand, Verdict}
 use Rattle.table.specs.Table.{Rows, size, edges}
 use Rattle.table.specs.Numbers.{table_demands}
 use Rattle.bubble.specs.Superbubble.{Superbubble}
-use Rattle.listing.specs.declared.Found.{Found}
+use Rattle.table.specs.declared.refusal.Refusal.{Refusal}
+use Rattle.table.specs.Refusals.{number}
+
+-- what list answers: the number, and how many superbubbles were found
+pub record Found : Type 0 where
+  pub number : ℕ
+  pub found : ℕ
+
+-- the same, of what the call hands out: 0 and how many, or the number of a refusal, which finds nothing
+abbrev pub found_of : Result ℕ Refusal → Found
+found_of (Ok found) = record { number = 0; found = found }
+found_of (Err refusal) = record { number = number refusal; found = 0 }
 
 -- the pair s, t stands in the list as entrance and exit
 pub record Stands (pairs : List ℕ) (found s t : ℕ) : Type 0 where

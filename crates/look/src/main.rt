@@ -6,8 +6,8 @@ use std::io::Print;
 
 // Says how the program is called.
 fn usage(rt: &HostRuntime) {
-    let _ = rt.write_all(
-        b"usage: look < IMAGE: prints how many vertices and edges the table in an image has, and whether it has lengths\n",
+    let _ = rt.println(
+        "usage: look < IMAGE: prints how many vertices and edges the table in an image has, and whether it has lengths",
     );
 }
 
@@ -17,14 +17,11 @@ fn main(rt: HostRuntime) {
         usage(&rt);
         return;
     }
-    let mut image = [0u8; Header::STREAM];
-    let input = exchange::read_input(&rt, &mut image, Header::STREAM);
-    if input.error != 0 {
+    let mut room = [0u8; Header::STREAM];
+    let Some(image) = exchange::read_input(&rt, &mut room, Header::STREAM) else {
         return;
-    }
-    let count = input.count;
+    };
     let mut text = [0u8; look_bytes::LONGEST];
-    let answer = look_bytes::answer(&image[..count], &mut text);
-    let length = answer.length;
-    exchange::print(&rt, &text[..length], answer.number);
+    let answer = look_bytes::answer(image, &mut text);
+    exchange::print(&rt, &text[..answer.length], answer.refusal);
 }

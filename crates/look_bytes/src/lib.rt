@@ -2,6 +2,7 @@
 #![tactic(auto)]
 
 ghost use Rattle.io.specs.Counts.{IsPrefixLen};
+ghost use Rattle.printing.specs.Answered.{told_of};
 ghost use Rattle.look_bytes.specs.Look.{LookAnswer};
 
 use printing::Answer;
@@ -11,15 +12,14 @@ pub const LONGEST: usize = 24;
 
 // Puts the line that look prints of an image at the front of the buffer: `table N M`, in version 2 `table N M lengths`, or `refused N`.
 pub fn answer(image: &[u8], out: &mut [u8; LONGEST]) -> Answer
-    ensures look_answer { LookAnswer image.now out.old out.new result }
+    ensures look_answer { LookAnswer image.now out.old out.new (told_of result) }
     ensures prefix_len { IsPrefixLen result.length out.new }
 {
-    let sizes = image::look(image);
-    if sizes.number != 0 {
-        return printing::refusal(out, sizes.number);
-    }
-    Answer {
-        number: 0,
-        length: printing::sizes(out, sizes.version, sizes.vertices, sizes.edges),
+    match image::look(image) {
+        Ok(sizes) => Answer {
+            refusal: None,
+            length: printing::sizes(out, sizes.version, sizes.vertices, sizes.edges),
+        },
+        Err(refusal) => printing::refusal(out, refusal),
     }
 }

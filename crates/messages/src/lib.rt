@@ -3,214 +3,141 @@
 #![tactic(auto)]
 
 use attributes::errors;
-use files::Replaced;
+use files::ReplaceError;
+use std::fmt::Display;
 use std::io::Print;
+use std::{fmt, io};
+use table::Refusal;
 
-// Says some bytes. Where standard error cannot be written there is nowhere left to say it.
-fn say(out: &impl Print, words: &[u8]) {
-    let _ = out.write_all(words);
-}
+// An error of the system in words, with what to do where that is plain.
+#[derive(Clone, Copy)]
+struct Reason(io::Error);
 
-// Says an error in words, with what to do where that is plain.
-fn say_error(out: &impl Print, error: i32) {
-    match error {
-        errors::EPERM | errors::EACCES => {
-            say(
-                out,
-                b"the rights do not allow it: look at the rights of the file and of its folder",
-            )
-        }
-        errors::ENOENT => say(out, b"there is no such file or folder: look at the name"),
-        errors::EINTR | errors::EAGAIN => say(out, b"it was interrupted"),
-        errors::EIO => say(out, b"its disk or device has a fault"),
-        errors::EBADF => say(out, b"it is closed"),
-        errors::ENOMEM | errors::EMFILE => {
-            say(
-                out,
-                b"the system has no memory, or no open files, left for it",
-            )
-        }
-        errors::EEXIST => say(out, b"the name is taken"),
-        errors::ENOTDIR => say(out, b"a part of the name is a file where a folder must be"),
-        errors::EISDIR => say(out, b"it is a folder: give the name of a file"),
-        errors::EINVAL => say(out, b"the system does not do this here"),
-        errors::EFBIG => say(out, b"files may not become so large here"),
-        errors::ENOSPC => say(out, b"no room is left on its disk: make room there"),
-        errors::EROFS => say(out, b"its disk can only be read"),
-        errors::ENAMETOOLONG => say(out, b"the name is too long: give a shorter one"),
-        errors::ELOOP => say(out, b"the name leads through too many links"),
-        errors::NOT_TEXT => say(out, b"the name is no text in UTF-8: give one that is"),
-        _ => say_number(out, error),
+impl Display for Reason {
+    fn fmt<W: fmt::Write>(&self, f: &mut fmt::Formatter<W>) -> fmt::Result {
+        f.write_str(match errors::number(&self.0) {
+            errors::EPERM | errors::EACCES => {
+                "the rights do not allow it: look at the rights of the file and of its folder"
+            }
+            errors::ENOENT => "there is no such file or folder: look at the name",
+            errors::EINTR | errors::EAGAIN => "it was interrupted",
+            errors::EIO => "its disk or device has a fault",
+            errors::EBADF => "it is closed",
+            errors::ENOMEM | errors::EMFILE => {
+                "the system has no memory, or no open files, left for it"
+            }
+            errors::EEXIST => "the name is taken",
+            errors::ENOTDIR => "a part of the name is a file where a folder must be",
+            errors::EISDIR => "it is a folder: give the name of a file",
+            errors::EINVAL => "the system does not do this here",
+            errors::EFBIG => "files may not become so large here",
+            errors::ENOSPC => "no room is left on its disk: make room there",
+            errors::EROFS => "its disk can only be read",
+            errors::ENAMETOOLONG => "the name is too long: give a shorter one",
+            errors::ELOOP => "the name leads through too many links",
+            errors::NOT_TEXT => "the name is no text in UTF-8: give one that is",
+            number => return write_number(f, number),
+        })
     }
 }
 
-// Says an error that has no words here, as the system counts it.
-fn say_number(out: &impl Print, error: i32) {
-    say(out, b"the system's error ");
-    if error > 0 {
-        let _ = out.print(error as u64);
+// Writes an error that has no words here, as the system counts it; the number only where it is above 0, which the cast has the checker prove.
+fn write_number<W: fmt::Write>(f: &mut fmt::Formatter<W>, number: i32) -> fmt::Result {
+    f.write_str("the system's error ")?;
+    if number > 0 {
+        write!(f, "{}", number as u64)?;
     }
+    Ok(())
+}
+
+// Says a line. Where standard error cannot be written there is nowhere left to say it.
+fn say(out: &impl Print, line: impl Display + Drop) {
+    let _ = out.println(line);
+}
+
+// Says a line of a name, which need not be text.
+fn say_of(out: &impl Print, name: &[u8], words: impl Display + Drop) {
+    let _ = out.write_all(name);
+    let _ = println!(out; ": {words}");
 }
 
 // Says of a name what error the system answered.
-pub fn say_reason(out: &impl Print, name: &[u8], error: i32) {
-    say(out, name);
-    say(out, b": ");
-    say_error(out, error);
-    say(out, b"\n");
+pub fn say_reason(out: &impl Print, name: &[u8], error: io::Error) {
+    say_of(out, name, Reason(error));
 }
 
 // Says that standard input could not be read.
-pub fn unread_input(out: &impl Print, error: i32) {
-    say(out, b"standard input could not be read: ");
-    say_error(out, error);
-    say(out, b"\nthere is no answer\n");
+pub fn unread_input(out: &impl Print, error: io::Error) {
+    let reason = Reason(error);
+    let _ = println!(out; "standard input could not be read: {reason}\nthere is no answer");
 }
 
 // Says that an answer could not be printed.
 pub fn unprinted(out: &impl Print) {
     say(
         out,
-        b"standard output could not be written: the answer there is not whole, and not to be used\n",
+        "standard output could not be written: the answer there is not whole, and not to be used",
     );
 }
 
 // Says that the line of a program could not be printed, and how OUT stands.
 pub fn unprinted_line(out: &impl Print, program: &[u8], state: &[u8]) {
-    say(out, b"standard output could not be written\n");
+    say(out, "standard output could not be written");
     say_state(out, program, state);
 }
 
-// Says why a number refuses, in the words of the table in docs/SHEET.md; nothing where the number is 0.
-pub fn say_refusal(out: &impl Print, number: u32) {
-    match number {
-        0 => {}
-        1 => say(out, b"the table has more than 2,048 vertices\n"),
-        2 => say(out, b"the table has more than 8,192 edges\n"),
-        3 => say(
-            out,
-            b"the starts don't begin with 0, fall, or don't end with the number of edges\n",
-        ),
-        4 => say(out, b"an edge leads to a vertex that is not there\n"),
-        5 => say(
-            out,
-            b"a row doesn't rise strictly: an edge stands twice, or the row is out of order\n",
-        ),
-        6 => say(out, b"the counts are not as many as the vertices\n"),
-        7 => say(out, b"the counts sum above 1,099,511,627,775\n"),
-        8 => say(out, b"there is not enough room for the result\n"),
-        9 => say(
-            out,
-            b"the table has a directed cycle, and a self-loop is one; fold --rings takes it\n",
-        ),
-        10 => say(
-            out,
-            b"the image is shorter than 13 bytes, or does not begin with S B T\n",
-        ),
-        11 => say(out, b"the image has another version than 1 and 2\n"),
-        12 => say(
-            out,
-            b"the image is longer or shorter than its header says\n",
-        ),
-        13 => say(
-            out,
-            b"the table does not have a vertex that was asked for\n",
-        ),
-        20 => say(out, b"a length is 0\n"),
-        _ => say(out, b"there are no words for this number\n"),
+// Every refusal, which is found by its number.
+const REFUSALS: [Refusal; 14] = [
+    Refusal::Vertices,
+    Refusal::Edges,
+    Refusal::Starts,
+    Refusal::Target,
+    Refusal::Row,
+    Refusal::CountEach,
+    Refusal::Reads,
+    Refusal::Room,
+    Refusal::Cycle,
+    Refusal::Mark,
+    Refusal::Version,
+    Refusal::Length,
+    Refusal::Vertex,
+    Refusal::ZeroLength,
+];
+
+// Says why a refusal or any number refuses; nothing where the number is 0.
+pub fn say_refusal<N: Into<u32>>(out: &impl Print, number: N) {
+    let number = number.into();
+    match REFUSALS
+        .iter()
+        .find(|refusal| u32::from(**refusal) == number)
+    {
+        Some(refusal) => say(out, *refusal),
+        None if number == 0 => {}
+        None => say(out, "there are no words for this number"),
     }
 }
 
 // Says how the file OUT of a program stands.
 pub fn say_state(out: &impl Print, program: &[u8], state: &[u8]) {
-    say(out, program);
-    say(out, b": ");
-    say(out, state);
-    say(out, b"\n");
+    let _ = out.write_all(program);
+    let _ = out.write_all(b": ");
+    let _ = out.write_all(state);
+    let _ = out.write_all(b"\n");
 }
 
-// Says that OUT is nothing that is replaced.
-fn say_kind(out: &impl Print, program: &[u8], name: &[u8], kind: &[u8]) {
-    say(out, name);
-    say(out, kind);
-    say_state(
-        out,
-        program,
-        b"OUT must be a plain file or a free name; OUT is as it was",
-    );
-}
-
-// Says that a step failed, and how OUT stands.
-fn say_step(out: &impl Print, program: &[u8], name: &[u8], error: i32, state: &[u8]) {
-    say_reason(out, name, error);
-    say_state(out, program, state);
-}
-
-// Says why OUT was not replaced; nothing where it was.
-pub fn say_replaced(out: &impl Print, program: &[u8], name: &[u8], replaced: Replaced) {
-    match replaced {
-        Replaced::Done => {}
-        Replaced::Link => say_kind(
-            out,
-            program,
-            name,
-            b": it is a link: give the name of the file itself\n",
-        ),
-        Replaced::Folder => say_kind(out, program, name, b": it is a folder\n"),
-        Replaced::Special => say_kind(
-            out,
-            program,
-            name,
-            b": it is a pipe, a socket or a device\n",
-        ),
-        Replaced::Unseen(error) => say_step(
-            out,
-            program,
-            name,
-            error,
-            b"OUT could not be looked at; OUT is as it was",
-        ),
-        Replaced::Protected(error) => say_step(
-            out,
-            program,
-            name,
-            error,
-            b"OUT may not be written; OUT is as it was",
-        ),
-        Replaced::FolderUnopened(error) => say_step(
-            out,
-            program,
-            name,
-            error,
-            b"the folder of OUT could not be opened for reading; OUT is as it was",
-        ),
-        Replaced::Unmade(error) => say_step(
-            out,
-            program,
-            name,
-            error,
-            b"a new file could not be made in the folder of OUT; OUT is as it was",
-        ),
-        Replaced::Unwritten(error) => say_step(
-            out,
-            program,
-            name,
-            error,
-            b"the new file could not be written to the disk whole; OUT is as it was",
-        ),
-        Replaced::Unrenamed(error) => say_step(
-            out,
-            program,
-            name,
-            error,
-            b"the new file could not be renamed to OUT, or the system does not say that it was; OUT is the old table or the new one, whole",
-        ),
-        Replaced::FolderUnflushed(error) => say_step(
-            out,
-            program,
-            name,
-            error,
-            b"the folder of OUT could not be flushed to the disk; OUT is the new table, whole, but a power loss could bring the old one back",
-        ),
+// Says why OUT was not replaced, and how it stands.
+pub fn say_replaced(out: &impl Print, program: &[u8], name: &[u8], error: ReplaceError) {
+    match error {
+        ReplaceError::Link => say_of(out, name, "it is a link: give the name of the file itself"),
+        ReplaceError::Folder => say_of(out, name, "it is a folder"),
+        ReplaceError::Special => say_of(out, name, "it is a pipe, a socket or a device"),
+        ReplaceError::Unseen(error)
+        | ReplaceError::Protected(error)
+        | ReplaceError::FolderUnopened(error)
+        | ReplaceError::Unmade(error)
+        | ReplaceError::Unwritten(error)
+        | ReplaceError::Unrenamed(error)
+        | ReplaceError::FolderUnflushed(error) => say_reason(out, name, error),
     }
+    say_of(out, program, error);
 }

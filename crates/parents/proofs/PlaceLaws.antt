@@ -1,12 +1,6 @@
 -- Laws of what stands among the first of a list. Assumes nothing.
-use Prim.Native.Nat.{ℕ, ◌≤◌, ◌<◌}
-use mathlib.Core.Path.{◌≡◌, sym, ◌∙◌}
-use mathlib.Core.Logic.{◌≢◌}
-use mathlib.Core.List.{List}
-use native.Mathlib.Omega.{arith}
+use Rattle.std.proofs.Common.{ℕ, ◌≤◌, ◌<◌, ◌≡◌, sym, ◌∙◌, ◌≢◌, List, arith, length, get_or, take, length-take, get_or-take, length-take-le, ext_get_or}
 use native.Mathlib.Decide.{dec_lt}
-use lib.ListN.{length, get_or, take, length-take}
-use lib.Seq.{get_or-take, length-take-le, ext_get_or}
 use Rattle.table.specs.Table.{In}
 use Rattle.parents.specs.Parents.{occurrences}
 use Rattle.parents.proofs.OccurrenceLaws.{occurs_in}

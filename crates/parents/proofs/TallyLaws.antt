@@ -1,30 +1,14 @@
--- Laws of the counts: a loop that sets each to 0, and one that adds 1 for each number it passes. Assumes nothing.
-use Prim.Native.Nat.{ℕ, ◌+◌, ◌≤◌, ◌<◌}
-use mathlib.Core.Path.{◌≡◌, refl, sym, ◌∙◌}
-use mathlib.Core.List.{List}
-use native.Mathlib.Omega.{arith}
-use native.Mathlib.Decide.{ℕ_discrete, dec_lt}
-use lib.ListN.{length, get_or, take, set, length-set, get_or-eq_default}
-use lib.Seq.{get_or-set_same, get_or-set_other, ext_get_or}
+-- Laws of the counts: those that are all 0, and a loop that adds 1 for each number it passes. Assumes nothing.
+use Rattle.std.proofs.Common.{ℕ, ◌+◌, ◌≤◌, ◌<◌, ◌≡◌, refl, sym, ◌∙◌, List, arith, length, get_or, take, set, length-set, get_or-set_same, get_or-set_other, ext_get_or}
+use native.Mathlib.Decide.{ℕ_discrete}
 use Rattle.table.specs.Limits.{edge_limit}
 use Rattle.table.specs.Table.{Below}
 use Rattle.parents.specs.Parents.{Parents, Zeros, Tallying, Tallied}
 use Rattle.parents.proofs.OccurrenceLaws.{same_yes, same_no, occurrences_more, occurrences_least, occurrences_most}
 
--- a list whose numbers are 0 from one end to the other
-pub all_zeros : {counts counts' : List ℕ} → length counts' ≡ length counts → ((k : ℕ) → k < length counts' → get_or counts' k 0 ≡ 0) → Zeros counts counts'
-all_zeros {counts' = counts'} q h = record {
-  same = q;
-  zeros = λ k. elim (dec_lt k (length counts')) [ yes l ↦ h k l | no n ↦ get_or-eq_default counts' 0 (omega arith) ];
-}
-
--- two such lists are the same
+-- two lists of zeros are the same
 pub zeros_same : {counts counts₁ counts₂ : List ℕ} → Zeros counts counts₁ → Zeros counts counts₂ → counts₁ ≡ counts₂
 zeros_same {counts₁ = counts₁} {counts₂ = counts₂} a b = ext_get_or 0 counts₁ counts₂ (a.same ∙ sym b.same) (λ k l. a.zeros k ∙ sym (b.zeros k))
-
--- no number is passed yet
-pub tally_none : (numbers : List ℕ) {counts : List ℕ} → Tallied (take 0 numbers) counts counts
-tally_none numbers = record { same = refl; more = λ v. omega arith }
 
 -- the next number's count has room for it
 pub tally_fits : {numbers counts counts' : List ℕ} (k : ℕ) → k < length numbers → Tallying numbers counts → Tallied (take k numbers) counts counts'

@@ -1,15 +1,12 @@
 -- Laws of what a program answers: a refusal, an answer, and either behind demands that are met. Assumes nothing.
-use Prim.Native.Nat.{ℕ}
-use mathlib.Core.Path.{◌≡◌, sym, ◌∙◌, ap}
-use mathlib.Core.List.{List, ◌++◌}
+use Rattle.std.proofs.Common.{ℕ, ◌≡◌, sym, ◌∙◌, ap, List, ◌++◌}
 use Rattle.table.specs.Verdict.{Demand, Verdict, AllMet}
 use Rattle.table.proofs.VerdictLaws.{goes_on}
-use Rattle.printing.specs.declared.Answer.{Answer}
 use Rattle.texts.specs.Text.{text, refusal_lines}
 use Rattle.printing.specs.Put.{AtFront}
-use Rattle.printing.specs.Answered.{Answered}
+use Rattle.printing.specs.Answered.{Told, Answered}
 
-module _ {demands : List Demand} {Right : List ℕ → Type 0} {out out' : List ℕ} {answer : Answer} where
+module _ {demands : List Demand} {Right : List ℕ → Type 0} {out out' : List ℕ} {answer : Told} where
   -- the line of a refusal
   pub refusal_answers : {number : ℕ} → (number ≡ 0 → ⊥) → Verdict demands number
       → (answer.number ≡ number) × AtFront (text (refusal_lines number)) out out' answer.length → Answered demands Right out out' answer

@@ -1,15 +1,11 @@
 -- What two contracts allow coincides: the buffer in which bytes were put, and what a program answers where one text alone is right. Assumes nothing.
-use Prim.Native.Nat.{ℕ}
-use mathlib.Core.Path.{◌≡◌, sym, ap, ap₂, ◌∙◌}
-use mathlib.Core.List.{List, ◌++◌}
+use Rattle.std.proofs.Common.{ℕ, ◌≡◌, sym, ap, ap₂, ◌∙◌, List, ◌++◌, length, take, drop}
 use native.Mathlib.Decide.{ℕ_discrete}
-use lib.ListN.{length, take, drop}
 use Rattle.table.specs.Verdict.{Demand}
 use Rattle.table.proofs.VerdictLaws.{verdict_unique}
 use Rattle.texts.specs.Text.{text, refusal_lines}
-use Rattle.printing.specs.declared.Answer.{Answer}
 use Rattle.printing.specs.Put.{AtFront, Put}
-use Rattle.printing.specs.Answered.{Answered}
+use Rattle.printing.specs.Answered.{Told, Answered}
 use Rattle.printing.proofs.PutLaws.{put_whole}
 
 -- the same bytes put at one place of buffers that held the same
@@ -27,7 +23,7 @@ front_determined {before = before} same p q =
     (ends, p.whole ∙ ap₂ (λ (bytes : List ℕ) (end : ℕ). bytes ++ drop end before) same ends ∙ sym q.whole)
 
 -- two answers to the same demands, where any two right texts are the same
-pub answered_determined : {demands : List Demand} {Right : List ℕ → Type 0} {out out₁ out₂ : List ℕ} {answer₁ answer₂ : Answer}
+pub answered_determined : {demands : List Demand} {Right : List ℕ → Type 0} {out out₁ out₂ : List ℕ} {answer₁ answer₂ : Told}
     → ((printed₁ printed₂ : List ℕ) → Right printed₁ → Right printed₂ → printed₁ ≡ printed₂) → Answered demands Right out out₁ answer₁
     → Answered demands Right out out₂ answer₂ → (answer₁ ≡ answer₂) × (out₁ ≡ out₂)
 answered_determined {demands} {Right} {answer₁ = answer₁} {answer₂ = answer₂} one a b =

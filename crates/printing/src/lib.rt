@@ -1,16 +1,20 @@
 // The text of an answer: words, and numbers in shortest decimal, put at a place of a buffer that has room for them.
+// Buffer and place are handed on side by side, and no struct: of a slice that is lent in a struct to be written nothing is known once the loan is over.
 #![tactic(auto)]
 
 ghost use Rattle.std.specs.Prelude.{◌+◌, ◌≤◌, ◌≡◌, [], ◌∷◌, length};
+ghost use Rattle.table.specs.Refusals.{number as refusal_number};
 ghost use Rattle.texts.specs.Text.{decimal, following, line, text, lengths_word, sizes_line, refusal_lines};
 ghost use Rattle.printing.specs.Put.{AtFront, Put};
+ghost use Rattle.printing.specs.Answered.{told_of};
 
 use layout::Header;
+use table::Refusal;
 
-// What a program answers: the number of a refusal, or 0, and how many bytes of text stand at the front of the buffer.
+// What a program answers: why it refuses, if it does, and how many bytes of text stand at the front of the buffer.
 #[derive(Clone, Copy)]
 pub struct Answer {
-    pub number: u32,
+    pub refusal: Option<Refusal>,
     pub length: usize,
 }
 
@@ -19,11 +23,7 @@ pub fn word(out: &mut [u8], at: usize, bytes: &[u8]) -> usize
     requires { at + length bytes.now ≤ length out.old }
     ensures { Put out.old at bytes.now out.new result }
 {
-    let mut k = 0;
-    while k < bytes.len() {
-        out[at + k] = bytes[k];
-        k += 1;
-    }
+    out[at..at + bytes.len()].copy_from_slice(bytes);
     at + bytes.len()
 }
 
@@ -47,6 +47,7 @@ pub fn next_number(out: &mut [u8], at: usize, x: u64) -> usize
 }
 
 // Puts a line feed.
+#[tactic(auto, using(crate::proofs::PutLaws::put_byte))]
 pub fn end_line(out: &mut [u8], at: usize) -> usize
     requires { at + 1 ≤ length out.old }
     ensures { Put out.old at (10 ∷ []) out.new result }
@@ -67,6 +68,7 @@ fn lengths_word(out: &mut [u8], at: usize, version: u32) -> usize
 }
 
 // Puts the line of n and m, `table N M`, in version 2 `table N M lengths`, at the front.
+#[tactic(auto, using(texts::proofs::LineLaws::sizes_line_long))]
 pub fn sizes(out: &mut [u8], version: u32, n: usize, m: usize) -> usize
     requires { length (line (sizes_line version n m)) ≤ length out.old }
     ensures { Put out.old 0 (line (sizes_line version n m)) out.new result }
@@ -78,16 +80,25 @@ pub fn sizes(out: &mut [u8], version: u32, n: usize, m: usize) -> usize
     end_line(out, place)
 }
 
-// Puts the line of a refusal, `refused N`, at the front.
-pub fn refusal(out: &mut [u8], number: u32) -> Answer
+// Puts the line of any number that refuses, `refused N`, at the front.
+#[tactic(auto, using(crate::proofs::Digits::ten_digits))]
+pub fn refusal_line(out: &mut [u8], number: u32) -> usize
     requires { 19 ≤ length out.old }
-    ensures { (result.number ≡ number)
-        × AtFront (text (refusal_lines number)) out.old out.new result.length }
+    ensures { AtFront (text (refusal_lines number)) out.old out.new result }
 {
     let mut place = word(out, 0, b"refused");
-    place = next_number(out, place, number as u64);
+    place = next_number(out, place, u64::from(number));
+    end_line(out, place)
+}
+
+// Puts the line of a refusal at the front.
+pub fn refusal(out: &mut [u8], refusal: Refusal) -> Answer
+    requires { 19 ≤ length out.old }
+    ensures { ((told_of result).number ≡ refusal_number refusal)
+        × AtFront (text (refusal_lines (refusal_number refusal))) out.old out.new (told_of result).length }
+{
     Answer {
-        number,
-        length: end_line(out, place),
+        refusal: Some(refusal),
+        length: refusal_line(out, u32::from(refusal)),
     }
 }

@@ -21,8 +21,7 @@ use Rattle.folding.proofs.Demand.{left_accepted}
 use Rattle.texts.specs.Text.{text, refusal_lines, fold_lines}
 use Rattle.printing.proofs.PutLaws.{front_bytes}
 use Rattle.printing.proofs.Determined.{front_determined}
-use Rattle.fold_bytes.specs.declared.Answers.{Answers}
-use Rattle.fold_bytes.specs.Image.{FoldBytes, FoldAnswer}
+use Rattle.fold_bytes.specs.Image.{Delivered, FoldBytes, FoldAnswer}
 use Rattle.promises.specs.Images.{GoodImage}
 use Rattle.promises.specs.Calls.{FoldCall}
 use Rattle.promises.specs.Runs.{FoldRun, RunsInTurn, RunsInTurn.once, RunsInTurn.then}
@@ -39,13 +38,13 @@ module _ {ways : ℕ → Way} (laws : (version : ℕ) → WayLaws (ways version)
   lawful image = laws (version_of image)
 
   -- a good image of its way's kind is accepted
-  pub good_accepted : {image out out' new new' : List ℕ} {budget : ℕ} {answers : Answers} → GoodImage image → (way image).Kind (edges (table_of image).rows)
+  pub good_accepted : {image out out' new new' : List ℕ} {budget : ℕ} {answers : Delivered} → GoodImage image → (way image).Kind (edges (table_of image).rows)
       → FoldAnswer ways image budget out out' new new' answers → answers.number ≡ 0
   good_accepted {image} good kind done =
       let asked = (way image).asked (table_of image).rows in
       good_decides good asked (accepts asked ((lawful image).kind_asked (table_of image).rows kind)) done.verdict
 
-  module _ (image : List ℕ) {out out' new new' : List ℕ} {budget : ℕ} {answers : Answers} (done : FoldAnswer ways image budget out out' new new' answers)
+  module _ (image : List ℕ) {out out' new new' : List ℕ} {budget : ℕ} {answers : Delivered} (done : FoldAnswer ways image budget out out' new new' answers)
       (e : answers.number ≡ 0) where
     passed : Verdict (image_demands image ++ (way image).asked (table_of image).rows) 0
     passed = rw e at done.verdict
@@ -125,7 +124,7 @@ module _ {ways : ℕ → Way} (laws : (version : ℕ) → WayLaws (ways version)
       writes_as_called = written_is ∙ ap (λ (t : Table). image_of (version_of image) (record { table = t; lengths = lengths_of image })) as_called.0
 
   -- two answers to one image by one budget, in buffers that held the same, coincide
-  pub answers_determined : (image : List ℕ) {out out₁ out₂ new new₁ new₂ : List ℕ} {budget : ℕ} {answers₁ answers₂ : Answers}
+  pub answers_determined : (image : List ℕ) {out out₁ out₂ new new₁ new₂ : List ℕ} {budget : ℕ} {answers₁ answers₂ : Delivered}
       → FoldAnswer ways image budget out out₁ new new₁ answers₁ → FoldAnswer ways image budget out out₂ new new₂ answers₂
       → (answers₁ ≡ answers₂) × (out₁ ≡ out₂) × (new₁ ≡ new₂)
   answers_determined image {answers₁ = answers₁} {answers₂ = answers₂} a b =
@@ -204,7 +203,7 @@ module _ {ways : ℕ → Way} (laws : (version : ℕ) → WayLaws (ways version)
 
   module _ {image image' budgets : List ℕ} (runs : RunsInTurn ways image budgets image') where
     -- the first image is accepted, whatever the budget
-    pub first_accepted : {out out' new new' : List ℕ} {budget : ℕ} {answers : Answers} → FoldAnswer ways image budget out out' new new' answers → answers.number ≡ 0
+    pub first_accepted : {out out' new new' : List ℕ} {budget : ℕ} {answers : Delivered} → FoldAnswer ways image budget out out' new new' answers → answers.number ≡ 0
     first_accepted {answers = answers} done =
         let run = (first_run runs).2 in
         verdict_unique (image_demands image ++ (way image).asked (table_of image).rows) answers.number 0 done.verdict (rw run.accepted at run.done.verdict)

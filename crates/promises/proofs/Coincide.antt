@@ -1,11 +1,12 @@
 -- Two results that a contract allows coincide, for each public function of the library, and of those from bytes to bytes: number, fields and all memory lent. What escapes
 -- is in docs/CONTRACTS.md.
--- Working room is left open: the order of a search, the colours, the path and the places of the cycle test, the best sums of a kept path. No result depends on what stood in it: two calls with
+-- Working room is left open: the order of a search, the colours and the path of the cycle test, the best sums of a kept path. No result depends on what stood in it: two calls with
 -- different working room coincide. Assumes nothing.
 use Prim.Native.Nat.{ℕ, ◌<◌, ◌≤◌}
 use mathlib.Core.Path.{◌≡◌, refl, sym, ◌∙◌}
 use mathlib.Core.Bool.{Bool}
 use mathlib.Core.List.{List}
+use Rattle.std.proofs.Common.{Option}
 use lib.ListN.{length, get_or}
 use Rattle.table.specs.Limits.{read_limit}
 use Rattle.table.specs.Verdict.{Verdict, Says}
@@ -14,11 +15,9 @@ use Rattle.table.specs.Numbers.{table_demands, counted_demands}
 use Rattle.table.proofs.VerdictLaws.{says_unique, verdict_unique}
 use Rattle.layout.specs.Image.{Contents}
 use Rattle.in_place.specs.InPlace.{contents_in, placed_demands}
-use Rattle.image.specs.declared.header.Sizes.{Sizes}
-use Rattle.image.specs.Looking.{Looked, Loaded}
+use Rattle.image.specs.Looking.{Seen, Looked, Loaded}
 use Rattle.image.proofs.Determined.{look_determined, load_determined}
-use Rattle.writing.specs.declared.Extent.{Extent}
-use Rattle.writing.specs.Writing.{Written}
+use Rattle.writing.specs.Writing.{Extent, Written}
 use Rattle.writing.proofs.Determined.{write_determined}
 use Rattle.vertices.specs.Vertices.{Added, Size}
 use Rattle.vertices.proofs.Determined.{put_determined}
@@ -31,13 +30,12 @@ use Rattle.search.specs.Search.{Visited, Sought}
 use Rattle.search.proofs.AnswerLaws.{shown, answer_unique}
 use Rattle.bubble.specs.Superbubble.{Reaches}
 use Rattle.bubble.specs.Cycle.{Cyclic}
+use Rattle.visiting.specs.declared.Turn.{Turn}
 use Rattle.visiting.specs.Visits.{Followed, Visitable, VisitAnswer}
 use Rattle.visiting.proofs.AnswerLaws.{visit_answer_unique}
-use Rattle.listing.specs.declared.Found.{Found}
-use Rattle.listing.specs.Listing.{ListDone}
+use Rattle.listing.specs.Listing.{Found, ListDone}
 use Rattle.listing.proofs.Determined.{superbubbles_determined, list_determined}
-use Rattle.judging.specs.declared.Judgement.{Judgement}
-use Rattle.judging.specs.Judging.{JudgeDone}
+use Rattle.judging.specs.Judging.{Judgement, JudgeDone}
 use Rattle.judging.proofs.Determined.{judged_determined, judge_determined}
 use Rattle.candidates.specs.Candidates.{FindDone}
 use Rattle.candidates.proofs.FoundLaws.{found_determined}
@@ -61,11 +59,10 @@ use Rattle.rule.specs.Way.{candidates_of, the_fold}
 use Rattle.rule.proofs.TheFold.{candidates_lawful, the_fold_lawful}
 use Rattle.skipping.specs.Skipping.{Admitted}
 use Rattle.skipping.proofs.SkipLaws.{admitted_determined}
-use Rattle.folding.specs.declared.folds.Folded.{Folded}
-use Rattle.folding.specs.Folding.{FoldDone}
+use Rattle.folding.specs.Folding.{Outcome, FoldDone}
 use Rattle.folding.proofs.Demand.{fold_determined}
 use Rattle.texts.specs.Text.{text, refusal_lines, list_lines, judgement_lines}
-use Rattle.printing.specs.declared.Answer.{Answer}
+use Rattle.printing.specs.Answered.{Told}
 use Rattle.printing.specs.Put.{AtFront, Put}
 use Rattle.printing.proofs.Determined.{bytes_put_determined, front_determined, answered_determined}
 use Rattle.taking.specs.Taking.{TakenIn}
@@ -74,8 +71,7 @@ use Rattle.look_bytes.specs.Look.{LookAnswer}
 use Rattle.show_bytes.specs.Show.{ShowAnswer}
 use Rattle.list_bytes.specs.Lines.{ListAnswer}
 use Rattle.judge_bytes.specs.Line.{JudgeAnswer}
-use Rattle.fold_bytes.specs.declared.Answers.{Answers}
-use Rattle.fold_bytes.specs.Image.{fold_of, FoldAnswer}
+use Rattle.fold_bytes.specs.Image.{Delivered, fold_of, FoldAnswer}
 use Rattle.promises.proofs.AnyRun.{answers_determined}
 use Rattle.promises.proofs.Runs.{fold_of_lawful}
 
@@ -110,11 +106,11 @@ pub check_in_place_coincides : (image : List ℕ) (version n m r₁ r₂ : ℕ) 
 check_in_place_coincides image version n m = verdict_unique (placed_demands (contents_in image version n m))
 
 -- `image::look`
-pub look_coincides : {image : List ℕ} {answer₁ answer₂ : Sizes} → Looked image answer₁ → Looked image answer₂ → answer₁ ≡ answer₂
+pub look_coincides : {image : List ℕ} {answer₁ answer₂ : Seen} → Looked image answer₁ → Looked image answer₂ → answer₁ ≡ answer₂
 look_coincides = look_determined
 
 -- `image::load`
-pub load_coincides : {image : List ℕ} {lent after₁ after₂ : Contents} {answer₁ answer₂ : Sizes} → Loaded image lent after₁ answer₁ → Loaded image lent after₂ answer₂
+pub load_coincides : {image : List ℕ} {lent after₁ after₂ : Contents} {answer₁ answer₂ : Seen} → Loaded image lent after₁ answer₁ → Loaded image lent after₂ answer₂
     → (answer₁ ≡ answer₂) × (after₁ ≡ after₂)
 load_coincides = load_determined
 
@@ -150,7 +146,7 @@ pub walk_coincides : {row parents pending order pending₁ order₁ pending₂ o
 walk_coincides = walk_determined
 
 -- `search::search`, whatever stood in the order: the exit and the pending parents. Of the order the vertices that it shows,
-pub search_coincides : (starts targets pending order order' pending₁ order₁ pending₂ order₂ : List ℕ) (s : ℕ) (exit₁ exit₂ : Exit)
+pub search_coincides : (starts targets pending order order' pending₁ order₁ pending₂ order₂ : List ℕ) (s : ℕ) (exit₁ exit₂ : Option Exit)
     → Sought starts targets pending order pending₁ order₁ s exit₁ → Sought starts targets pending order' pending₂ order₂ s exit₂
     → (exit₁ ≡ exit₂) × (pending₁ ≡ pending₂)
 search_coincides starts targets pending order order' pending₁ order₁ pending₂ order₂ s exit₁ exit₂ a b =
@@ -162,9 +158,9 @@ pub order_shows_same : {starts targets order₁ order₂ : List ℕ} {s t k₁ k
 order_shows_same = shown
 
 -- `visiting::visit`: the answer
-pub visit_coincides : {starts targets colours path places : List ℕ} {root : ℕ} → Visitable starts targets colours path places root → (from to : ℕ)
-    (colours₁ path₁ places₁ colours₂ path₂ places₂ : List ℕ) (r₁ r₂ : Bool) → VisitAnswer r₁ starts targets colours from to root colours₁ path₁ places₁
-    → VisitAnswer r₂ starts targets colours from to root colours₂ path₂ places₂ → r₁ ≡ r₂
+pub visit_coincides : {starts targets colours : List ℕ} {path : List Turn} {root : ℕ} → Visitable starts targets colours path root → (from to : ℕ)
+    (colours₁ : List ℕ) (path₁ : List Turn) (colours₂ : List ℕ) (path₂ : List Turn) (r₁ r₂ : Bool) → VisitAnswer r₁ starts targets colours from to root colours₁ path₁
+    → VisitAnswer r₂ starts targets colours from to root colours₂ path₂ → r₁ ≡ r₂
 visit_coincides = visit_answer_unique
 
 -- `cycle::has_cycle_within`: the answer
@@ -190,7 +186,7 @@ pub reaches_coincides : (rows : Rows) (from to : ℕ) (r₁ r₂ : Bool) → Say
 reaches_coincides rows from to = says_unique (Reaches (edges rows) from to)
 
 -- `skipping::admit`
-pub admit_coincides : {rows : Rows} {s : ℕ} {rings : Rings} {exit r₁ r₂ : Exit} → Admitted (edges rows) s rings exit r₁ → Admitted (edges rows) s rings exit r₂ → r₁ ≡ r₂
+pub admit_coincides : {rows : Rows} {s : ℕ} {rings : Rings} {exit r₁ r₂ : Option Exit} → Admitted (edges rows) s rings exit r₁ → Admitted (edges rows) s rings exit r₂ → r₁ ≡ r₂
 admit_coincides = admitted_determined
 
 -- `candidates::find`: all but the order
@@ -226,7 +222,7 @@ pub write_table_coincides : {rows lent after₁ after₂ : Rows} {next : List �
 write_table_coincides = write_table_determined
 
 -- `folding::fold`, `fold_weakest`, `fold_rings` and `fold_rings_weakest`, and `fold_by` below them
-pub fold_coincides : (mode : Mode) {table lent after₁ after₂ : Table} {budget : ℕ} {answer₁ answer₂ : Folded}
+pub fold_coincides : (mode : Mode) {table lent after₁ after₂ : Table} {budget : ℕ} {answer₁ answer₂ : Outcome}
     → FoldDone (the_fold mode) table budget lent after₁ answer₁ → FoldDone (the_fold mode) table budget lent after₂ answer₂ → (answer₁ ≡ answer₂) × (after₁ ≡ after₂)
 fold_coincides mode = fold_determined (the_fold_lawful mode)
 
@@ -236,7 +232,7 @@ pub bytes_put_coincide : {before bytes after₁ after₂ : List ℕ} {at end₁ 
 bytes_put_coincide = bytes_put_determined
 
 -- `printing::refusal`
-pub refusal_coincides : {out out₁ out₂ : List ℕ} {number : ℕ} {answer₁ answer₂ : Answer}
+pub refusal_coincides : {out out₁ out₂ : List ℕ} {number : ℕ} {answer₁ answer₂ : Told}
     → (answer₁.number ≡ number) × AtFront (text (refusal_lines number)) out out₁ answer₁.length
     → (answer₂.number ≡ number) × AtFront (text (refusal_lines number)) out out₂ answer₂.length
     → (answer₁ ≡ answer₂) × (out₁ ≡ out₂)
@@ -246,22 +242,22 @@ refusal_coincides (number₁, at₁) (number₂, at₂) =
     (λ i. record { number = numbers i; length = ends i }, outs)
 
 -- `taking::take_in`
-pub take_in_coincides : {image : List ℕ} {lent after₁ after₂ : Contents} {answer₁ answer₂ : Sizes} → TakenIn image lent after₁ answer₁ → TakenIn image lent after₂ answer₂
+pub take_in_coincides : {image : List ℕ} {lent after₁ after₂ : Contents} {answer₁ answer₂ : Seen} → TakenIn image lent after₁ answer₁ → TakenIn image lent after₂ answer₂
     → (answer₁ ≡ answer₂) × (after₁ ≡ after₂)
 take_in_coincides = taken_in_determined
 
 -- `look_bytes::answer`
-pub look_answers_coincide : (image : List ℕ) {out out₁ out₂ : List ℕ} {answer₁ answer₂ : Answer} → LookAnswer image out out₁ answer₁ → LookAnswer image out out₂ answer₂
+pub look_answers_coincide : (image : List ℕ) {out out₁ out₂ : List ℕ} {answer₁ answer₂ : Told} → LookAnswer image out out₁ answer₁ → LookAnswer image out out₂ answer₂
     → (answer₁ ≡ answer₂) × (out₁ ≡ out₂)
 look_answers_coincide image = answered_determined (λ printed₁ printed₂ a b. a ∙ sym b)
 
 -- `show_bytes::answer`
-pub show_answers_coincide : (image : List ℕ) {out out₁ out₂ : List ℕ} {answer₁ answer₂ : Answer} → ShowAnswer image out out₁ answer₁ → ShowAnswer image out out₂ answer₂
+pub show_answers_coincide : (image : List ℕ) {out out₁ out₂ : List ℕ} {answer₁ answer₂ : Told} → ShowAnswer image out out₁ answer₁ → ShowAnswer image out out₂ answer₂
     → (answer₁ ≡ answer₂) × (out₁ ≡ out₂)
 show_answers_coincide image = answered_determined (λ printed₁ printed₂ a b. a ∙ sym b)
 
 -- `list_bytes::answer`
-pub list_answers_coincide : (image : List ℕ) {out out₁ out₂ : List ℕ} {answer₁ answer₂ : Answer} → ListAnswer image out out₁ answer₁ → ListAnswer image out out₂ answer₂
+pub list_answers_coincide : (image : List ℕ) {out out₁ out₂ : List ℕ} {answer₁ answer₂ : Told} → ListAnswer image out out₁ answer₁ → ListAnswer image out out₂ answer₂
     → (answer₁ ≡ answer₂) × (out₁ ≡ out₂)
 list_answers_coincide image =
     answered_determined
@@ -269,7 +265,7 @@ list_answers_coincide image =
     a.spelled ∙ (λ i. text (list_lines (pairs i) (many i))) ∙ sym b.spelled)
 
 -- `judge_bytes::answer`
-pub judge_answers_coincide : (image : List ℕ) {s t : ℕ} {out out₁ out₂ : List ℕ} {answer₁ answer₂ : Answer} → JudgeAnswer image s t out out₁ answer₁
+pub judge_answers_coincide : (image : List ℕ) {s t : ℕ} {out out₁ out₂ : List ℕ} {answer₁ answer₂ : Told} → JudgeAnswer image s t out out₁ answer₁
     → JudgeAnswer image s t out out₂ answer₂ → (answer₁ ≡ answer₂) × (out₁ ≡ out₂)
 judge_answers_coincide image =
     answered_determined
@@ -277,7 +273,7 @@ judge_answers_coincide image =
     a.spelled ∙ (λ i. text (judgement_lines (answers i) (sizes i))) ∙ sym b.spelled)
 
 -- `fold_bytes::answer`
-pub fold_answers_coincide : (rings : Rings) (image : List ℕ) {out out₁ out₂ new new₁ new₂ : List ℕ} {budget : ℕ} {answers₁ answers₂ : Answers}
+pub fold_answers_coincide : (rings : Rings) (image : List ℕ) {out out₁ out₂ new new₁ new₂ : List ℕ} {budget : ℕ} {answers₁ answers₂ : Delivered}
     → FoldAnswer (fold_of rings) image budget out out₁ new new₁ answers₁ → FoldAnswer (fold_of rings) image budget out out₂ new new₂ answers₂
     → (answers₁ ≡ answers₂) × (out₁ ≡ out₂) × (new₁ ≡ new₂)
 fold_answers_coincide rings = answers_determined (fold_of_lawful rings)

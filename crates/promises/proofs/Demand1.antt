@@ -13,23 +13,18 @@ use Rattle.table.proofs.VerdictLaws.{goes_on, stops, verdict_unique}
 use Rattle.table.proofs.Accepted.{well_formed, counted, met_counted, counted_meets}
 use Rattle.layout.specs.Lengths.{Known}
 use Rattle.layout.specs.Image.{Contents, SoundContents, image_length, version_of, vertices_of, edges_of}
-use Rattle.image.specs.declared.header.Sizes.{Sizes}
-use Rattle.image.specs.Looking.{image_demands, contents_room, NoSizes, Looked, Loaded}
+use Rattle.image.specs.Looking.{Seen, image_demands, contents_room, NoSizes, Looked, Loaded}
 use Rattle.image.proofs.LookLaws.{looked_met}
 use Rattle.image.proofs.LoadLaws.{loaded_met}
-use Rattle.writing.specs.declared.Extent.{Extent}
-use Rattle.writing.specs.Writing.{contents_demands, image_room, Written}
+use Rattle.writing.specs.Writing.{Extent, contents_demands, image_room, Written}
 use Rattle.writing.proofs.WriteLaws.{written_sound}
 use Rattle.bubble.specs.Cycle.{Cyclic}
-use Rattle.listing.specs.declared.Found.{Found}
-use Rattle.listing.specs.Listing.{list_room, ListDone}
-use Rattle.judging.specs.declared.Judgement.{Judgement}
-use Rattle.judging.specs.Judging.{pair_inside, JudgeDone}
+use Rattle.listing.specs.Listing.{Found, list_room, ListDone}
+use Rattle.judging.specs.Judging.{Judgement, pair_inside, JudgeDone}
 use Rattle.rule.specs.Way.{no_cycle_demand, asked_of, plain, the_fold}
 use Rattle.rule.specs.declared.Choosing.{Choosing}
 use Rattle.rule.specs.declared.Mode.{Mode}
-use Rattle.folding.specs.declared.folds.Folded.{Folded}
-use Rattle.folding.specs.Folding.{fold_room, fold_demands, FoldDone}
+use Rattle.folding.specs.Folding.{Outcome, fold_room, fold_demands, FoldDone}
 use Rattle.promises.specs.Images.{GoodImage}
 use Rattle.promises.proofs.Decided.{
   DecidedInTurn,
@@ -123,14 +118,14 @@ judge_refuses_bad {rows} {s} {t} {answer} bad done =
     still_refused (table_demands rows) (pair_inside rows s t ∷ []) answer.number (λ r. bad_table_refused rows r bad) (check_answers rows) done.verdict
 
 -- each fold,
-pub fold_refuses_bad : (mode : Mode) {table lent after : Table} {budget : ℕ} {answer : Folded} → (SoundTable table → ⊥)
+pub fold_refuses_bad : (mode : Mode) {table lent after : Table} {budget : ℕ} {answer : Outcome} → (SoundTable table → ⊥)
     → FoldDone (the_fold mode) table budget lent after answer → answer.number ≡ 0 → ⊥
 fold_refuses_bad mode {table} {lent} {answer = answer} bad done =
     still_refused (counted_demands table) (fold_room table lent ∷ asked_of mode.rings table.rows) answer.number
     (λ r. bad_counts_refused table r bad) (check_counted_answers table) done.verdict
 
 -- which, where rings are refused, refuses a table with a directed cycle, too: by 9, where there is room,
-pub fold_refuses_cycle : (by : Choosing) {table lent after : Table} {budget : ℕ} {answer : Folded} → SoundTable table
+pub fold_refuses_cycle : (by : Choosing) {table lent after : Table} {budget : ℕ} {answer : Outcome} → SoundTable table
     → (fold_room table lent).met → Cyclic (edges table.rows)
     → FoldDone (the_fold (plain by)) table budget lent after answer → answer.number ≡ 9
 fold_refuses_cycle by {table} {lent} {answer = answer} ok room cycle done =
@@ -144,11 +139,11 @@ pub write_refuses_bad : {version : ℕ} {contents : Contents} {image image' : Li
 write_refuses_bad known sixteen bad done e = bad (written_sound done e known sixteen)
 
 -- and bytes that are the image of no well-formed table, by look
-pub look_refuses_bad : {image : List ℕ} {answer : Sizes} → Below 256 image → (GoodImage image → ⊥) → Looked image answer → answer.number ≡ 0 → ⊥
+pub look_refuses_bad : {image : List ℕ} {answer : Seen} → Below 256 image → (GoodImage image → ⊥) → Looked image answer → answer.number ≡ 0 → ⊥
 look_refuses_bad bytes bad looks e = bad (met_good bytes (looked_met looks e))
 
 -- and by load.
-pub load_refuses_bad : {image : List ℕ} {lent after : Contents} {answer : Sizes} → Below 256 image → (GoodImage image → ⊥) → Loaded image lent after answer
+pub load_refuses_bad : {image : List ℕ} {lent after : Contents} {answer : Seen} → Below 256 image → (GoodImage image → ⊥) → Loaded image lent after answer
     → answer.number ≡ 0 → ⊥
 load_refuses_bad bytes bad loads e = bad (met_good bytes (loaded_met loads e))
 
@@ -161,16 +156,16 @@ pub judge_refusal : {rows : Rows} {s t : ℕ} {answer : Judgement} → JudgeDone
 judge_refusal done = done.refused
 
 -- each fold,
-pub fold_refusal : (mode : Mode) {table lent after : Table} {budget : ℕ} {answer : Folded} → FoldDone (the_fold mode) table budget lent after answer → (answer.number ≡ 0 → ⊥)
+pub fold_refusal : (mode : Mode) {table lent after : Table} {budget : ℕ} {answer : Outcome} → FoldDone (the_fold mode) table budget lent after answer → (answer.number ≡ 0 → ⊥)
     → (after ≡ lent) × ((answer.folded ≡ 0) × (answer.left ≡ 0) × (answer.edges ≡ 0))
 fold_refusal mode done refusal = let (folded, left, edges, same) = done.refused refusal in (same, (folded, left, edges))
 
 -- look, which is lent nothing that it could change,
-pub look_refusal : {image : List ℕ} {answer : Sizes} → Looked image answer → (answer.number ≡ 0 → ⊥) → NoSizes answer
+pub look_refusal : {image : List ℕ} {answer : Seen} → Looked image answer → (answer.number ≡ 0 → ⊥) → NoSizes answer
 look_refusal done = done.refused
 
 -- load,
-pub load_refusal : {image : List ℕ} {lent after : Contents} {answer : Sizes} → Loaded image lent after answer → (answer.number ≡ 0 → ⊥)
+pub load_refusal : {image : List ℕ} {lent after : Contents} {answer : Seen} → Loaded image lent after answer → (answer.number ≡ 0 → ⊥)
     → (after ≡ lent) × NoSizes answer
 load_refusal done refusal = let (sizes, same) = done.refused refusal in (same, sizes)
 

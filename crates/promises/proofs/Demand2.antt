@@ -14,14 +14,12 @@ use Rattle.table.proofs.Accepted.{table_met, well_formed_accepted}
 use Rattle.table.proofs.RowLaws.{edges_below}
 use Rattle.bubble.specs.Superbubble.{Superbubble}
 use Rattle.bubble.proofs.Unique.{exit_unique}
-use Rattle.listing.specs.declared.Found.{Found}
-use Rattle.listing.specs.Listing.{Stands, Listed, ListDone}
+use Rattle.listing.specs.Listing.{Found, Stands, Listed, ListDone}
 use Rattle.listing.specs.Graphs.{Example, graphs, RightlyListed, AsPrinted, Each}
 use Rattle.listing.proofs.ListLaws.{listed_determined}
 use Rattle.listing.proofs.SoundList.{sound_accepted, front_is_list, front_listed, listed_most}
 use Rattle.promises.proofs.TwelveGraphs.{twelve_graphs}
-use Rattle.judging.specs.declared.Judgement.{Judgement}
-use Rattle.judging.specs.Judging.{pair_inside, Judged, JudgeDone}
+use Rattle.judging.specs.Judging.{Judgement, pair_inside, Judged, JudgeDone}
 use Rattle.rule.specs.Fold.{NoCycle, Item, kept_shares}
 use Rattle.rule.specs.Tables.{TableFolded}
 use Rattle.rule.specs.Way.{kind_of, candidates_of, the_fold}

@@ -10,6 +10,7 @@ pub mod Rings
 pub mod Printed
 pub mod Runs
 pub mod Coincide
+pub mod Results
 pub mod WrongPrograms
 -- look and load of one image, in a row
 pub mod LookAndLoad

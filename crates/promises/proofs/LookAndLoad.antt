@@ -14,8 +14,7 @@ use Rattle.layout.specs.Lengths.{length_count}
 use Rattle.layout.specs.Image.{Contents, version_of, vertices_of, edges_of, table_of, contents_of}
 use Rattle.layout.proofs.LengthLaws.{lengths_one}
 use Rattle.layout.proofs.ImageLaws.{starts_long, targets_long}
-use Rattle.image.specs.declared.header.Sizes.{Sizes}
-use Rattle.image.specs.Looking.{body_demands, image_demands, contents_room, ExactRoom, Looked, Loaded}
+use Rattle.image.specs.Looking.{Seen, body_demands, image_demands, contents_room, ExactRoom, Looked, Loaded}
 use Rattle.image.proofs.LookLaws.{looked_met}
 use Rattle.image.proofs.LoadLaws.{exact_contents}
 use Rattle.promises.specs.Images.{GoodImage}
@@ -41,7 +40,7 @@ never k (d ∷ rest) some others (inl v) e = ⊎_elim (λ other. other (sym v.1 
 never k (d ∷ rest) some others (inr v) e = never k rest some others.1 v.1 e
 
 -- 8 is never among them.
-pub look_never_eight : {image : List ℕ} {looked : Sizes} → Looked image looked → looked.number ≢ 8
+pub look_never_eight : {image : List ℕ} {looked : Seen} → Looked image looked → looked.number ≢ 8
 look_never_eight {image} sees =
     let body : Others 8 (body_demands image)
     = (inl (λ e. omega arith), (inl (λ e. omega arith), (inl (λ e. omega arith), (inl (λ e. omega arith), (inl (λ e. omega arith), tt))))) in
@@ -50,11 +49,11 @@ look_never_eight {image} sees =
     never 8 (image_demands image) (λ e. omega arith) all sees.verdict
 
 -- An image is sound, and look gives 0, exactly if it is the image of a well-formed table, in version 2 with its lengths;
-pub look_exactly : {image : List ℕ} {looked : Sizes} → Below 256 image → Looked image looked → (looked.number ≡ 0) ↔ GoodImage image
+pub look_exactly : {image : List ℕ} {looked : Seen} → Below 256 image → Looked image looked → (looked.number ≡ 0) ↔ GoodImage image
 look_exactly {image} bytes sees = let (there, back) = passed_exactly {image = image} [] tt bytes sees.verdict in (λ e. (there e).0, λ good. back (good, tt))
 
 -- then the version is its own, and n and m are how big this table is.
-pub look_sizes : {image : List ℕ} {looked : Sizes} → Looked image looked → looked.number ≡ 0
+pub look_sizes : {image : List ℕ} {looked : Seen} → Looked image looked → looked.number ≡ 0
     → (looked.version ≡ version_of image) × (looked.vertices ≡ size (table_of image).rows) × (looked.edges ≡ length (table_of image).rows.targets)
 look_sizes {image} sees e =
     let is = sees.taken e in
@@ -63,11 +62,11 @@ look_sizes {image} sees e =
 -- ---- Look, and then load.
 
 -- answers with the same fields are the same
-same_sizes : {a b : Sizes} → a.number ≡ b.number → a.version ≡ b.version → a.vertices ≡ b.vertices → a.edges ≡ b.edges → a ≡ b
+same_sizes : {a b : Seen} → a.number ≡ b.number → a.version ≡ b.version → a.vertices ≡ b.vertices → a.edges ≡ b.edges → a ≡ b
 same_sizes number version n m = λ i. record { number = number i; version = version i; vertices = n i; edges = m i }
 
 -- Where look refuses with r, load refuses with r, whatever is lent: the same number, version, n and m, and the slices as they were.
-pub look_refuses_load_refuses : {image : List ℕ} {looked loaded : Sizes} {lent after : Contents} → Looked image looked → looked.number ≢ 0
+pub look_refuses_load_refuses : {image : List ℕ} {looked loaded : Seen} {lent after : Contents} → Looked image looked → looked.number ≢ 0
     → Loaded image lent after loaded → (loaded ≡ looked) × (after ≡ lent)
 look_refuses_load_refuses {image} {looked} {loaded} {lent} sees refusal loads =
     let room = contents_room (version_of image) (vertices_of image) (edges_of image) lent in
@@ -79,7 +78,7 @@ look_refuses_load_refuses {image} {looked} {loaded} {lent} sees refusal loads =
     (same_sizes same (none.no_version ∙ sym none_seen.no_version) (none.no_n ∙ sym none_seen.no_n) (none.no_m ∙ sym none_seen.no_m), kept)
 
 module _ {image : List ℕ} {version n m : ℕ} (sees : Looked image (record { number = 0; version = version; vertices = n; edges = m }))
-    {lent after : Contents} {loaded : Sizes} (loads : Loaded image lent after loaded) where
+    {lent after : Contents} {loaded : Seen} (loads : Loaded image lent after loaded) where
   -- where look accepts, the room decides
   decides : (number : ℕ) → Verdict (contents_room version n m lent ∷ []) number → loaded.number ≡ number
   decides number v =
@@ -108,7 +107,7 @@ module _ {image : List ℕ} {version n m : ℕ} (sees : Looked image (record { n
     λ same. elim (contents_room_decided version n m lent) [
       | yes room ↦ room
       | no none ↦
-          let zero = ap (λ (s : Sizes). s.number) same in
+          let zero = ap (λ (s : Seen). s.number) same in
           let eight = decides 8 (inl (none, refl)) in
           absurd (let no : ⊥ = omega (arith, zero, eight) in no)
     ],
@@ -123,7 +122,7 @@ module _ {image : List ℕ} {version n m : ℕ} (sees : Looked image (record { n
       (with_room room, exact_contents sees refl exact loads)
 
 -- In version 1 nothing is asked of the lengths slice, and nothing is stored there.
-pub version_1_leaves_lengths : {image : List ℕ} {lent after : Contents} {loaded : Sizes} → Loaded image lent after loaded → version_of image ≡ 1 → after.lengths ≡ lent.lengths
+pub version_1_leaves_lengths : {image : List ℕ} {lent after : Contents} {loaded : Seen} → Loaded image lent after loaded → version_of image ≡ 1 → after.lengths ≡ lent.lengths
 version_1_leaves_lengths {image} {lent} {after} {loaded} loads one =
     elim (ℕ_discrete loaded.number 0) [
       | yes e ↦
@@ -142,11 +141,11 @@ first_is zero second same = refl
 first_is (suc r) second same = sym (same (λ e. omega arith))
 
 -- Of the two in a row, the first number other than 0 is the verdict of docs/RULES.md's order,
-pub in_a_row : {image : List ℕ} {looked loaded : Sizes} {lent after : Contents} → Looked image looked → Loaded image lent after loaded
+pub in_a_row : {image : List ℕ} {looked loaded : Seen} {lent after : Contents} → Looked image looked → Loaded image lent after loaded
     → Verdict (image_demands image ++ contents_room (version_of image) (vertices_of image) (edges_of image) lent ∷ []) (first_refusal looked.number loaded.number)
 in_a_row {image} {looked} {loaded} sees loads =
     let same : first_refusal looked.number loaded.number ≡ loaded.number
-    = first_is looked.number loaded.number (λ refusal. ap (λ (s : Sizes). s.number) (look_refuses_load_refuses sees refusal loads).0) in
+    = first_is looked.number loaded.number (λ refusal. ap (λ (s : Seen). s.number) (look_refuses_load_refuses sees refusal loads).0) in
     rw same loads.verdict
 
 -- which is that of its numbers here.

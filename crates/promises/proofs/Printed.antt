@@ -12,15 +12,12 @@ use Rattle.table.specs.Table.{Below, Table, size, edges}
 use Rattle.table.proofs.VerdictLaws.{verdict_unique}
 use Rattle.layout.specs.Image.{image_of, version_of, vertices_of, edges_of, lengths_of, table_of, contents_of}
 use Rattle.layout.proofs.ImageLaws.{starts_long, targets_long}
-use Rattle.image.specs.declared.header.Sizes.{Sizes}
-use Rattle.image.specs.Looking.{image_demands, Looked}
+use Rattle.image.specs.Looking.{Seen, image_demands, Looked}
 use Rattle.image.proofs.LookLaws.{table_sound}
 use Rattle.bubble.specs.Cycle.{Cyclic}
-use Rattle.listing.specs.declared.Found.{Found}
-use Rattle.listing.specs.Listing.{ListDone}
+use Rattle.listing.specs.Listing.{Found, ListDone}
 use Rattle.listing.proofs.Determined.{superbubbles_determined}
-use Rattle.judging.specs.declared.Judgement.{Judgement}
-use Rattle.judging.specs.Judging.{pair_inside, JudgeDone}
+use Rattle.judging.specs.Judging.{Judgement, pair_inside, JudgeDone}
 use Rattle.judging.proofs.Determined.{judged_determined}
 use Rattle.rule.specs.Fold.{kept_shares}
 use Rattle.rule.specs.Way.{candidates_of}
@@ -30,15 +27,13 @@ use Rattle.rule.specs.Tables.{TableFolded}
 use Rattle.texts.specs.Text.{line, text, each, refusal_lines, sizes_line, look_lines, vertex_line, contents_lines, list_lines, judgement_lines, fold_lines}
 use Rattle.texts.proofs.FirstWord.{refusal_no_look, refusal_no_contents, refusal_no_list, refusal_no_judgement, refusal_no_fold}
 use Rattle.texts.proofs.Determined.{refusal_determines, contents_determines}
-use Rattle.printing.specs.declared.Answer.{Answer}
-use Rattle.printing.specs.Answered.{Answered}
+use Rattle.printing.specs.Answered.{Told, Answered}
 use Rattle.printing.proofs.PutLaws.{front_bytes, behind_front}
 use Rattle.look_bytes.specs.Look.{LookAnswer}
 use Rattle.show_bytes.specs.Show.{ShowAnswer}
 use Rattle.list_bytes.specs.Lines.{ListAnswer}
 use Rattle.judge_bytes.specs.Line.{JudgeAnswer}
-use Rattle.fold_bytes.specs.declared.Answers.{Answers}
-use Rattle.fold_bytes.specs.Image.{choosing_of, fold_of, FoldBytes, FoldAnswer}
+use Rattle.fold_bytes.specs.Image.{Delivered, choosing_of, fold_of, FoldBytes, FoldAnswer}
 use Rattle.promises.specs.Images.{GoodImage}
 use Rattle.promises.specs.Lines.{lines}
 use Rattle.promises.specs.Calls.{FoldCall}
@@ -51,25 +46,25 @@ use Rattle.promises.proofs.Runs.{fold_of_lawful}
 -- ---- What is printed and written where nothing is refused.
 
 -- the text of an answer stands at the front of its buffer
-right_text : {demands : List Demand} {Right : List ℕ → Type 0} {out out' : List ℕ} {answer : Answer} → (done : Answered demands Right out out' answer)
+right_text : {demands : List Demand} {Right : List ℕ → Type 0} {out out' : List ℕ} {answer : Told} → (done : Answered demands Right out out' answer)
     → take answer.length out' ≡ done.printed
 right_text done = front_bytes done.at_front
 
 -- Look prints the version, n and m that a call of look answers,
-pub look_prints : (image : List ℕ) {out out' : List ℕ} {answer : Answer} → LookAnswer image out out' answer → answer.number ≡ 0
-    → {looked : Sizes} → Looked image looked → take answer.length out' ≡ text (look_lines looked.version looked.vertices looked.edges)
+pub look_prints : (image : List ℕ) {out out' : List ℕ} {answer : Told} → LookAnswer image out out' answer → answer.number ≡ 0
+    → {looked : Seen} → Looked image looked → take answer.length out' ≡ text (look_lines looked.version looked.vertices looked.edges)
 look_prints image {answer = answer} done e {looked} sees =
     let zero : looked.number ≡ 0 = verdict_unique (image_demands image) looked.number 0 sees.verdict (rw e at done.verdict) in
     let is = sees.taken zero in
     right_text done ∙ done.taken e ∙ (λ i. text (look_lines (sym is.same_version i) (sym is.same_n i) (sym is.same_m i)))
 
 -- show the table that stands in the image, in version 2 with its lengths,
-pub show_prints : (image : List ℕ) {out out' : List ℕ} {answer : Answer} → ShowAnswer image out out' answer → answer.number ≡ 0
+pub show_prints : (image : List ℕ) {out out' : List ℕ} {answer : Told} → ShowAnswer image out out' answer → answer.number ≡ 0
     → take answer.length out' ≡ text (contents_lines (version_of image) (contents_of image))
 show_prints image done e = right_text done ∙ done.taken e
 
 -- whose first line is the one that look prints,
-pub show_begins_with_look : (image : List ℕ) {out out' seen seen' : List ℕ} {answer shown : Answer} → LookAnswer image out out' answer → ShowAnswer image seen seen' shown
+pub show_begins_with_look : (image : List ℕ) {out out' seen seen' : List ℕ} {answer shown : Told} → LookAnswer image out out' answer → ShowAnswer image seen seen' shown
     → answer.number ≡ 0 → (rest : List ℕ) × (take shown.length seen' ≡ take answer.length out' ++ rest)
 show_begins_with_look image {answer = answer} {shown = shown} looks shows e =
     let rows = (table_of image).rows in
@@ -84,7 +79,7 @@ show_begins_with_look image {answer = answer} {shown = shown} looks shows e =
     )
 
 -- and which determines the image, lengths included: two images that are shown by the same text are the same bytes,
-pub show_determines_image : (image image' : List ℕ) {out out₁ out' out₂ : List ℕ} {answer answer' : Answer} → Below 256 image → Below 256 image'
+pub show_determines_image : (image image' : List ℕ) {out out₁ out' out₂ : List ℕ} {answer answer' : Told} → Below 256 image → Below 256 image'
     → ShowAnswer image out out₁ answer → answer.number ≡ 0 → ShowAnswer image' out' out₂ answer' → answer'.number ≡ 0
     → take answer.length out₁ ≡ take answer'.length out₂ → image ≡ image'
 show_determines_image image image' bytes bytes' done e done' e' same =
@@ -97,7 +92,7 @@ show_determines_image image image' bytes bytes' done e done' e' same =
     same_bytes ((passed_exactly {image = image} [] tt bytes done.verdict).0 e).0 ((passed_exactly {image = image'} [] tt bytes' done'.verdict).0 e').0 version contents
 
 -- list the list that a call of list on this table leaves, wherever there is room for it: the one that demand 2 speaks of,
-pub list_prints : (image : List ℕ) {out out' : List ℕ} {answer : Answer} → ListAnswer image out out' answer → answer.number ≡ 0
+pub list_prints : (image : List ℕ) {out out' : List ℕ} {answer : Told} → ListAnswer image out out' answer → answer.number ≡ 0
     → {slice slice' : List ℕ} {found : Found} → 2 * size (table_of image).rows ≤ length slice → ListDone (table_of image).rows slice slice' found
     → take answer.length out' ≡ text (list_lines (lines found slice') found.found)
 list_prints image done e {slice' = slice'} {found = found} room call =
@@ -107,7 +102,7 @@ list_prints image done e {slice' = slice'} {found = found} room call =
     right_text done ∙ at.spelled ∙ (λ i. text (list_lines (pairs i) (many i)))
 
 -- judge what a call of judge answers,
-pub judge_prints : (image : List ℕ) {s t : ℕ} {out out' : List ℕ} {answer : Answer} → JudgeAnswer image s t out out' answer → answer.number ≡ 0
+pub judge_prints : (image : List ℕ) {s t : ℕ} {out out' : List ℕ} {answer : Told} → JudgeAnswer image s t out out' answer → answer.number ≡ 0
     → {judgement : Judgement} → JudgeDone (table_of image).rows s t judgement
     → take answer.length out' ≡ text (judgement_lines judgement.yes judgement.size)
 judge_prints image {s} {t} done e call =
@@ -118,7 +113,7 @@ judge_prints image {s} {t} done e call =
     let (yes-same, size_same) = judged_determined at.judged (judged (passed_sound image asked passed).well_formed inside.0 inside.1 call).1 in
     right_text done ∙ at.spelled ∙ (λ i. text (judgement_lines (yes-same i) (size_same i)))
 
-module _ (rings : Rings) (image : List ℕ) {out out' new new' : List ℕ} {budget : ℕ} {answers : Answers}
+module _ (rings : Rings) (image : List ℕ) {out out' new new' : List ℕ} {budget : ℕ} {answers : Delivered}
     (done : FoldAnswer (fold_of rings) image budget out out' new new' answers) where
   -- and fold writes the image of the table that the rule of its version gives, of that version and with the lengths as they were, and prints how many it folded and left
   -- and how many edges that table has.
@@ -180,29 +175,29 @@ image_alone : (image : List ℕ) {number : ℕ} → Below 256 image → Verdict 
 image_alone image bytes v = let (there, back) = passed_exactly {image = image} [] tt bytes v in (λ e. (there e).0, λ good. back (good, tt))
 
 -- They are answered, and not refused, exactly if they are a good image: by look,
-pub look_answers_exactly : (image : List ℕ) {out out' : List ℕ} {answer : Answer} → Below 256 image → LookAnswer image out out' answer
+pub look_answers_exactly : (image : List ℕ) {out out' : List ℕ} {answer : Told} → Below 256 image → LookAnswer image out out' answer
     → (answer.number ≡ 0) ↔ GoodImage image
 look_answers_exactly image bytes done = image_alone image bytes done.verdict
 
 -- by show,
-pub show_answers_exactly : (image : List ℕ) {out out' : List ℕ} {answer : Answer} → Below 256 image → ShowAnswer image out out' answer
+pub show_answers_exactly : (image : List ℕ) {out out' : List ℕ} {answer : Told} → Below 256 image → ShowAnswer image out out' answer
     → (answer.number ≡ 0) ↔ GoodImage image
 show_answers_exactly image bytes done = image_alone image bytes done.verdict
 
 -- by list,
-pub list_answers_exactly : (image : List ℕ) {out out' : List ℕ} {answer : Answer} → Below 256 image → ListAnswer image out out' answer
+pub list_answers_exactly : (image : List ℕ) {out out' : List ℕ} {answer : Told} → Below 256 image → ListAnswer image out out' answer
     → (answer.number ≡ 0) ↔ GoodImage image
 list_answers_exactly image bytes done = image_alone image bytes done.verdict
 
 -- by judge if both vertices are below n,
-pub judge_answers_exactly : (image : List ℕ) {s t : ℕ} {out out' : List ℕ} {answer : Answer} → Below 256 image → JudgeAnswer image s t out out' answer
+pub judge_answers_exactly : (image : List ℕ) {s t : ℕ} {out out' : List ℕ} {answer : Told} → Below 256 image → JudgeAnswer image s t out out' answer
     → (answer.number ≡ 0) ↔ (GoodImage image × ((s < size (table_of image).rows) × (t < size (table_of image).rows)))
 judge_answers_exactly image {s} {t} bytes done =
     let (there, back) = passed_exactly {image = image} (pair_inside (table_of image).rows s t ∷ []) ((λ z. omega arith), tt) bytes done.verdict in
     (λ e. ((there e).0, (there e).1.0), λ h. back (h.0, (h.1, tt)))
 
 -- by fold if there is no directed cycle,
-pub fold_answers_exactly : (image : List ℕ) {out out' new new' : List ℕ} {budget : ℕ} {answers : Answers} → Below 256 image
+pub fold_answers_exactly : (image : List ℕ) {out out' new new' : List ℕ} {budget : ℕ} {answers : Delivered} → Below 256 image
     → FoldAnswer (fold_of Refused) image budget out out' new new' answers
     → (answers.number ≡ 0) ↔ (GoodImage image × (Cyclic (edges (table_of image).rows) → ⊥))
 fold_answers_exactly image bytes done =
@@ -210,25 +205,25 @@ fold_answers_exactly image bytes done =
     (λ e. ((there e).0, (there e).1.0), λ h. back (h.0, (h.1, tt)))
 
 -- and by fold --rings whatever its table.
-pub rings_answers_exactly : (image : List ℕ) {out out' new new' : List ℕ} {budget : ℕ} {answers : Answers} → Below 256 image
+pub rings_answers_exactly : (image : List ℕ) {out out' new new' : List ℕ} {budget : ℕ} {answers : Delivered} → Below 256 image
     → FoldAnswer (fold_of Taken) image budget out out' new new' answers → (answers.number ≡ 0) ↔ GoodImage image
 rings_answers_exactly image bytes done =
     let (there, back) = passed_exactly {image = image} ((fold_of Taken (version_of image)).asked (table_of image).rows) tt bytes done.verdict in
     (λ e. (there e).0, λ good. back (good, tt))
 
 -- Of a good image judge refuses any other pair with 13,
-pub judge_refuses_outside : (image : List ℕ) {s t : ℕ} {out out' : List ℕ} {answer : Answer} → GoodImage image
+pub judge_refuses_outside : (image : List ℕ) {s t : ℕ} {out out' : List ℕ} {answer : Told} → GoodImage image
     → (((s < size (table_of image).rows) × (t < size (table_of image).rows)) → ⊥) → JudgeAnswer image s t out out' answer → answer.number ≡ 13
 judge_refuses_outside image {s} {t} good outside done = good_decides good (pair_inside (table_of image).rows s t ∷ []) (inl (outside, refl)) done.verdict
 
 -- and fold one with a cycle with 9.
-pub fold_refuses_cyclic : (image : List ℕ) {out out' new new' : List ℕ} {budget : ℕ} {answers : Answers} → GoodImage image → Cyclic (edges (table_of image).rows)
+pub fold_refuses_cyclic : (image : List ℕ) {out out' new new' : List ℕ} {budget : ℕ} {answers : Delivered} → GoodImage image → Cyclic (edges (table_of image).rows)
     → FoldAnswer (fold_of Refused) image budget out out' new new' answers → answers.number ≡ 9
 fold_refuses_cyclic image good cycle done = good_decides good ((fold_of Refused (version_of image)).asked (table_of image).rows) (inl ((λ none. none cycle), refl)) done.verdict
 
 -- ---- What is printed where something is refused.
 
-module _ {demands : List Demand} {Right : List ℕ → Type 0} {out out' : List ℕ} {answer : Answer} (done : Answered demands Right out out' answer) where
+module _ {demands : List Demand} {Right : List ℕ → Type 0} {out out' : List ℕ} {answer : Told} (done : Answered demands Right out out' answer) where
   -- Where look, show, list or judge refuses by N, the whole text is the line `refused N`;
   pub refusal_prints : answer.number ≢ 0 → take answer.length out' ≡ text (refusal_lines answer.number)
   refusal_prints refusal = right_text done ∙ done.refused refusal
@@ -252,7 +247,7 @@ module _ {demands : List Demand} {Right : List ℕ → Type 0} {out out' : List 
 abbrev FoldLine : Rings → List ℕ → ℕ → List ℕ → Type 0
 FoldLine rings image budget printed = (written : List ℕ) × FoldBytes (fold_of rings (version_of image)) (version_of image) (contents_of image) budget printed written
 
-module _ (rings : Rings) (image : List ℕ) {out out' new new' : List ℕ} {budget : ℕ} {answers : Answers}
+module _ (rings : Rings) (image : List ℕ) {out out' new new' : List ℕ} {budget : ℕ} {answers : Delivered}
     (done : FoldAnswer (fold_of rings) image budget out out' new new' answers) where
   -- what fold prints is an answer like those of the others
   line_answered : Answered (image_demands image ++ (fold_of rings (version_of image)).asked (table_of image).rows) (FoldLine rings image budget) out out'
@@ -276,27 +271,27 @@ module _ (rings : Rings) (image : List ℕ) {out out' new new' : List ℕ} {budg
 
 -- The line of a refusal is the text of no look, show, list, judgement or fold, and it says its number alone. So the user can tell from it which case she has: she reads
 -- `refused N` exactly if the number is N, and not 0. From look,
-pub look_tells : (image : List ℕ) {out out' : List ℕ} {answer : Answer} → LookAnswer image out out' answer
+pub look_tells : (image : List ℕ) {out out' : List ℕ} {answer : Told} → LookAnswer image out out' answer
     → (r : ℕ) → (take answer.length out' ≡ text (refusal_lines r)) ↔ ((answer.number ≡ r) × (r ≢ 0))
 look_tells image done = tells done (λ printed right r same. refusal_no_look r (version_of image) (vertices_of image) (edges_of image) (same ∙ right))
 
 -- from show,
-pub show_tells : (image : List ℕ) {out out' : List ℕ} {answer : Answer} → ShowAnswer image out out' answer
+pub show_tells : (image : List ℕ) {out out' : List ℕ} {answer : Told} → ShowAnswer image out out' answer
     → (r : ℕ) → (take answer.length out' ≡ text (refusal_lines r)) ↔ ((answer.number ≡ r) × (r ≢ 0))
 show_tells image done = tells done (λ printed right r same. refusal_no_contents r (version_of image) (contents_of image) (same ∙ right))
 
 -- from list,
-pub list_tells : (image : List ℕ) {out out' : List ℕ} {answer : Answer} → ListAnswer image out out' answer
+pub list_tells : (image : List ℕ) {out out' : List ℕ} {answer : Told} → ListAnswer image out out' answer
     → (r : ℕ) → (take answer.length out' ≡ text (refusal_lines r)) ↔ ((answer.number ≡ r) × (r ≢ 0))
 list_tells image done = tells done (λ printed right r same. refusal_no_list r right.pairs right.found (same ∙ right.spelled))
 
 -- from judge,
-pub judge_tells : (image : List ℕ) {s t : ℕ} {out out' : List ℕ} {answer : Answer} → JudgeAnswer image s t out out' answer
+pub judge_tells : (image : List ℕ) {s t : ℕ} {out out' : List ℕ} {answer : Told} → JudgeAnswer image s t out out' answer
     → (r : ℕ) → (take answer.length out' ≡ text (refusal_lines r)) ↔ ((answer.number ≡ r) × (r ≢ 0))
 judge_tells image done = tells done (λ printed right r same. refusal_no_judgement r right.judgement.yes right.judgement.size (same ∙ right.spelled))
 
 -- and from fold.
-pub fold_tells : (rings : Rings) (image : List ℕ) {out out' new new' : List ℕ} {budget : ℕ} {answers : Answers}
+pub fold_tells : (rings : Rings) (image : List ℕ) {out out' new new' : List ℕ} {budget : ℕ} {answers : Delivered}
     → FoldAnswer (fold_of rings) image budget out out' new new' answers
     → (r : ℕ) → (take answers.line out' ≡ text (refusal_lines r)) ↔ ((answers.number ≡ r) × (r ≢ 0))
 fold_tells rings image done =

@@ -27,12 +27,10 @@ use Rattle.rule.proofs.Skipped.{skipped_inside, skipped_counts}
 use Rattle.rule.proofs.TableDemand.{no_candidate_left}
 use Rattle.rule.proofs.TheFold.{acyclic_folds, fold_with_lawful, the_fold_lawful}
 use Rattle.rule.proofs.WithoutCycle.{table_folded_ring}
-use Rattle.folding.specs.declared.folds.Folded.{Folded}
-use Rattle.folding.specs.Folding.{fold_demands, FoldDone}
+use Rattle.folding.specs.Folding.{Outcome, fold_demands, FoldDone}
 use Rattle.folding.proofs.Demand.{fold_determined}
 use Rattle.folding.proofs.RingLaws.{done_without_cycle}
-use Rattle.fold_bytes.specs.declared.Answers.{Answers}
-use Rattle.fold_bytes.specs.Image.{fold_of, FoldAnswer}
+use Rattle.fold_bytes.specs.Image.{Delivered, fold_of, FoldAnswer}
 use Rattle.promises.specs.Calls.{FoldCall, CallsInTurn}
 use Rattle.promises.specs.InARow.{numbers}
 use Rattle.promises.proofs.Decided.{edge_decided}
@@ -47,7 +45,7 @@ pub rings_order : (by : Choosing) (table lent : Table) → numbers (fold_demands
 rings_order by table lent = refl
 
 -- and 9 is never given;
-pub rings_never_nine : (by : Choosing) {table lent after : Table} {budget : ℕ} {answer : Folded} → FoldDone (the_fold (ringed by)) table budget lent after answer
+pub rings_never_nine : (by : Choosing) {table lent after : Table} {budget : ℕ} {answer : Outcome} → FoldDone (the_fold (ringed by)) table budget lent after answer
     → answer.number ≢ 9
 rings_never_nine by {table} {lent} done =
     never 9 (fold_demands (the_fold (ringed by)) table lent) (λ e. omega arith) (
@@ -120,13 +118,13 @@ pub ring_fold_exists : (by : Choosing) {table : Table} → SoundTable table → 
 ring_fold_exists by {table} ok = exists.fold_exists (edge_decided table.rows) (edges_below ok.well_formed) Taken tt (count_of table.counts) by
 
 -- ---- On a table without a directed cycle the two folds give the same answer and the same slices, whatever else is wrong with it.
-pub same_without_cycle : (by : Choosing) {table lent after₁ after₂ : Table} {budget : ℕ} {answer₁ answer₂ : Folded} → (Cyclic (edges table.rows) → ⊥)
+pub same_without_cycle : (by : Choosing) {table lent after₁ after₂ : Table} {budget : ℕ} {answer₁ answer₂ : Outcome} → (Cyclic (edges table.rows) → ⊥)
     → FoldDone (the_fold (plain by)) table budget lent after₁ answer₁ → FoldDone (the_fold (ringed by)) table budget lent after₂ answer₂
     → (answer₁ ≡ answer₂) × (after₁ ≡ after₂)
 same_without_cycle by none fold rings = fold_determined (the_fold_lawful (ringed by)) (done_without_cycle none fold) rings
 
 -- So do the programs: `fold` and `fold --rings` print and write the same bytes.
-pub same_bytes_without_cycle : (image : List ℕ) {out out₁ out₂ new new₁ new₂ : List ℕ} {budget : ℕ} {answers₁ answers₂ : Answers}
+pub same_bytes_without_cycle : (image : List ℕ) {out out₁ out₂ new new₁ new₂ : List ℕ} {budget : ℕ} {answers₁ answers₂ : Delivered}
     → (Cyclic (edges (table_of image).rows) → ⊥) → FoldAnswer (fold_of Refused) image budget out out₁ new new₁ answers₁
     → FoldAnswer (fold_of Taken) image budget out out₂ new new₂ answers₂ → (answers₁ ≡ answers₂) × (out₁ ≡ out₂) × (new₁ ≡ new₂)
 same_bytes_without_cycle image {out} {out₁} {new = new} {new₁ = new₁} {budget = budget} {answers₁ = answers₁} none fold rings =

@@ -12,25 +12,23 @@ use Rattle.table.proofs.VerdictLaws.{accepts, goes_on, verdict_unique}
 use Rattle.layout.specs.Lengths.{Known}
 use Rattle.layout.specs.Image.{Contents, SoundContents, image_length, image_of, version_of, vertices_of, edges_of, contents_of}
 use Rattle.layout.proofs.ImageLaws.{image_length_lem}
-use Rattle.image.specs.declared.header.Sizes.{Sizes}
-use Rattle.image.specs.Looking.{image_demands, contents_room, contents_fronts, Looked, Loaded}
+use Rattle.image.specs.Looking.{Seen, image_demands, contents_room, contents_fronts, Looked, Loaded}
 use Rattle.image.proofs.LookLaws.{contents_sound}
 use Rattle.image.proofs.LoadLaws.{loaded_met, loaded_contents}
-use Rattle.writing.specs.declared.Extent.{Extent}
-use Rattle.writing.specs.Writing.{Written}
+use Rattle.writing.specs.Writing.{Extent, Written}
 use Rattle.writing.proofs.WriteLaws.{contents_written, written_sound}
 use Rattle.promises.specs.RoundTrip.{ContentsBack, ImageBack}
 use Rattle.promises.proofs.ContentsBack.{version_back, vertices_back, edges_back, contents_back, image_met}
 use Rattle.promises.proofs.ImageBack.{image_back}
 
 -- the image of sound contents is accepted by look,
-pub image_seen : {version : ℕ} {contents : Contents} {answer : Sizes} → SoundContents version contents → Looked (image_of version contents) answer → answer.number ≡ 0
+pub image_seen : {version : ℕ} {contents : Contents} {answer : Seen} → SoundContents version contents → Looked (image_of version contents) answer → answer.number ≡ 0
 image_seen {version} {contents} {answer} sound sees =
     let image = image_of version contents in
     verdict_unique (image_demands image) answer.number 0 sees.verdict (accepts (image_demands image) (image_met version contents sound))
 
 -- and loaded, with room
-pub image_loaded : {version : ℕ} {contents lent after : Contents} {answer : Sizes} → SoundContents version contents
+pub image_loaded : {version : ℕ} {contents lent after : Contents} {answer : Seen} → SoundContents version contents
     → (contents_room version (size contents.table.rows) (length contents.table.rows.targets) lent).met
     → Loaded (image_of version contents) lent after answer → answer.number ≡ 0
 image_loaded {version} {contents} {lent} {after} {answer} sound room loads =
@@ -44,7 +42,7 @@ image_loaded {version} {contents} {lent} {after} {answer} sound room loads =
 -- writing accepted contents, in either version, and loading them, with room, gives them back
 pub written_then_loaded : {version : ℕ} {contents : Contents} {slice image : List ℕ} {written : Extent} → Known version → Below 65536 contents.lengths
     → Written version contents slice image written → written.number ≡ 0
-    → {lent after : Contents} {answer : Sizes} → (contents_room version (size contents.table.rows) (length contents.table.rows.targets) lent).met
+    → {lent after : Contents} {answer : Seen} → (contents_room version (size contents.table.rows) (length contents.table.rows.targets) lent).met
     → Loaded (take written.length image) lent after answer → ContentsBack version contents after answer
 written_then_loaded {version} {contents} {slice} {image} {written} known narrow w e {lent} {after} {answer} room l =
     let sound : SoundContents version contents = written_sound w e known narrow in
@@ -64,7 +62,7 @@ written_then_loaded {version} {contents} {slice} {image} {written} known narrow 
     }
 
 -- an accepted image, loaded and written in its version, with room, gives the same bytes
-pub loaded_then_written : {image : List ℕ} {lent after : Contents} {loaded : Sizes} → Below 256 image → Loaded image lent after loaded → loaded.number ≡ 0
+pub loaded_then_written : {image : List ℕ} {lent after : Contents} {loaded : Seen} → Below 256 image → Loaded image lent after loaded → loaded.number ≡ 0
     → {slice out : List ℕ} {answer : Extent} → length image ≤ length slice
     → Written loaded.version (contents_fronts loaded.version loaded.vertices loaded.edges after) slice out answer
     → ImageBack image out answer

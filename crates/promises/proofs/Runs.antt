@@ -21,8 +21,7 @@ use Rattle.rule.proofs.CandidatesListed.{candidates_listed}
 use Rattle.rule.proofs.TableDemand.{no_candidate_left, no_interior_left}
 use Rattle.rule.proofs.TheFold.{the_fold_lawful, folds_acyclic}
 use Rattle.rule.proofs.BestLaws.{kept_shares_laws}
-use Rattle.fold_bytes.specs.declared.Answers.{Answers}
-use Rattle.fold_bytes.specs.Image.{choosing_of, fold_of, FoldAnswer}
+use Rattle.fold_bytes.specs.Image.{Delivered, choosing_of, fold_of, FoldAnswer}
 use Rattle.promises.specs.Images.{GoodImage}
 use Rattle.promises.specs.Runs.{FoldRun, RunsInTurn}
 use Rattle.promises.proofs.AnyRun as any
@@ -45,12 +44,12 @@ module _ (rings : Rings) {image image' budgets : List ℕ} (runs : RunsInTurn (f
   runs_keep_lengths = (any.runs_keep (fold_of_lawful rings) runs).1
 
   -- so that the next run refuses nothing, whatever its budget: one can always go on.
-  pub next_run_accepted : {out out' new new' : List ℕ} {budget : ℕ} {answers : Answers} → FoldAnswer (fold_of rings) image' budget out out' new new' answers
+  pub next_run_accepted : {out out' new new' : List ℕ} {budget : ℕ} {answers : Delivered} → FoldAnswer (fold_of rings) image' budget out out' new new' answers
       → answers.number ≡ 0
   next_run_accepted = let (good, kind) = any.runs_leave (fold_of_lawful rings) runs in any.good_accepted (fold_of_lawful rings) good kind
 
   -- One run on the first image refuses nothing, either,
-  pub one_run_accepted : {out out' new new' : List ℕ} {budget : ℕ} {answers : Answers} → FoldAnswer (fold_of rings) image budget out out' new new' answers
+  pub one_run_accepted : {out out' new new' : List ℕ} {budget : ℕ} {answers : Delivered} → FoldAnswer (fold_of rings) image budget out out' new new' answers
       → answers.number ≡ 0
   one_run_accepted = any.first_accepted (fold_of_lawful rings) runs
 

@@ -15,8 +15,7 @@ use Rattle.layout.specs.Bytes.{spelled}
 use Rattle.layout.specs.Image.{Contents, image_length, largest_image, header_of, image_of}
 use Rattle.layout.proofs.LengthLaws.{lengths_one, lengths_two}
 use Rattle.image.specs.Looking.{contents_room}
-use Rattle.writing.specs.declared.Extent.{Extent}
-use Rattle.writing.specs.Writing.{image_room, contents_demands, Written}
+use Rattle.writing.specs.Writing.{Extent, image_room, contents_demands, Written}
 use Rattle.rule.specs.declared.Choosing.TheVariants.{Sum, Weakest}
 use Rattle.rule.specs.declared.Mode.{Mode}
 use Rattle.rule.specs.declared.Rings.{Rings}

@@ -12,16 +12,13 @@ use Rattle.table.specs.Numbers.{table_demands, counted_demands}
 use Rattle.table.proofs.VerdictLaws.{verdict_unique}
 use Rattle.table.proofs.Accepted.{well_formed_accepted, counted_accepted}
 use Rattle.layout.specs.Image.{Contents, SoundContents, image_length, image_of}
-use Rattle.image.specs.declared.header.Sizes.{Sizes}
-use Rattle.image.specs.Looking.{contents_room, Looked, Loaded}
-use Rattle.writing.specs.declared.Extent.{Extent}
-use Rattle.writing.specs.Writing.{Written}
+use Rattle.image.specs.Looking.{Seen, contents_room, Looked, Loaded}
+use Rattle.writing.specs.Writing.{Extent, Written}
 use Rattle.writing.proofs.WriteLaws.{contents_written}
 use Rattle.bubble.specs.Superbubble.{Superbubble}
 use Rattle.bubble.proofs.Unique.{exit_unique}
-use Rattle.listing.specs.declared.Found.{Found}
+use Rattle.listing.specs.Listing.{Found, ListDone}
 use Rattle.listing.specs.Graphs.{graph_B, graph_C}
-use Rattle.listing.specs.Listing.{ListDone}
 use Rattle.listing.proofs.ListLaws.{listed_determined}
 use Rattle.promises.proofs.TwelveGraphs.{twelve_graphs}
 use Rattle.rule.specs.Lists.{Listing}
@@ -50,10 +47,10 @@ pub write_accepts : {version : ℕ} {contents : Contents} {image image' : List �
     → answer.number ≡ 0
 write_accepts = contents_written
 
-pub look_accepts : {version : ℕ} {contents : Contents} {answer : Sizes} → SoundContents version contents → Looked (image_of version contents) answer → answer.number ≡ 0
+pub look_accepts : {version : ℕ} {contents : Contents} {answer : Seen} → SoundContents version contents → Looked (image_of version contents) answer → answer.number ≡ 0
 look_accepts = image_seen
 
-pub load_accepts : {version : ℕ} {contents lent after : Contents} {answer : Sizes} → SoundContents version contents
+pub load_accepts : {version : ℕ} {contents lent after : Contents} {answer : Seen} → SoundContents version contents
     → (contents_room version (size contents.table.rows) (length contents.table.rows.targets) lent).met
     → Loaded (image_of version contents) lent after answer → answer.number ≡ 0
 load_accepts = image_loaded

@@ -4,8 +4,7 @@ use Rattle.table.specs.Table.{Table, size, edges, SoundTable}
 use Rattle.table.specs.Lent.{fronts}
 use Rattle.bubble.specs.Cycle.{Cyclic}
 use Rattle.rule.specs.Way.{Way}
-use Rattle.folding.specs.declared.folds.Folded.{Folded}
-use Rattle.folding.specs.Folding.{fold_room, FoldDone}
+use Rattle.folding.specs.Folding.{Outcome, fold_room, FoldDone}
 
 -- a table that demand 3 speaks of: well-formed with its counts, and without a directed cycle
 pub record Foldable (table : Table) : Type 0 where
@@ -17,7 +16,7 @@ pub record FoldCall (way : Way) (table : Table) (budget : ℕ) (table' : Table) 
   pub lent : Table
   pub room : (fold_room table lent).met
   pub after : Table
-  pub answer : Folded
+  pub answer : Outcome
   pub done : FoldDone way table budget lent after answer
   pub leaves : table' ≡ fronts (size table.rows) answer.edges after
 

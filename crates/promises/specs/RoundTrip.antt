@@ -2,12 +2,11 @@
 use Rattle.std.specs.Prelude.{◌≡◌, List, ℕ, length, take}
 use Rattle.table.specs.Table.{size}
 use Rattle.layout.specs.Image.{Contents}
-use Rattle.image.specs.declared.header.Sizes.{Sizes}
-use Rattle.image.specs.Looking.{contents_fronts}
-use Rattle.writing.specs.declared.Extent.{Extent}
+use Rattle.image.specs.Looking.{Seen, contents_fronts}
+use Rattle.writing.specs.Writing.{Extent}
 
 -- contents written as an image of a version and loaded are given back: what was loaded are the contents, with the version, n and m
-pub record ContentsBack (version : ℕ) (contents after : Contents) (answer : Sizes) : Type 0 where
+pub record ContentsBack (version : ℕ) (contents after : Contents) (answer : Seen) : Type 0 where
   pub accepted_again : answer.number ≡ 0
   pub same_version : answer.version ≡ version
   pub same_n : answer.vertices ≡ size contents.table.rows

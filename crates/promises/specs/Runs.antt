@@ -2,8 +2,7 @@
 use Rattle.std.specs.Prelude.{ℕ, ◌≡◌, List, [], ◌∷◌, take}
 use Rattle.table.specs.Table.{Below}
 use Rattle.rule.specs.Way.{Way}
-use Rattle.fold_bytes.specs.declared.Answers.{Answers}
-use Rattle.fold_bytes.specs.Image.{FoldAnswer}
+use Rattle.fold_bytes.specs.Image.{Delivered, FoldAnswer}
 
 -- a run that refuses nothing: from the bytes of IN by a budget to the bytes that are written to OUT
 pub record FoldRun (ways : ℕ → Way) (image : List ℕ) (budget : ℕ) (image' : List ℕ) : Type 0 where
@@ -12,7 +11,7 @@ pub record FoldRun (ways : ℕ → Way) (image : List ℕ) (budget : ℕ) (image
   pub out' : List ℕ
   pub new : List ℕ
   pub new' : List ℕ
-  pub answers : Answers
+  pub answers : Delivered
   pub done : FoldAnswer ways image budget out out' new new' answers
   pub accepted : answers.number ≡ 0
   pub leaves : image' ≡ take answers.image new'

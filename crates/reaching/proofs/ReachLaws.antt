@@ -1,12 +1,7 @@
 -- Laws of the walk: what holds where it begins, where a row is passed, and where it ends. Assumes nothing.
-use Prim.Native.Nat.{ℕ, ◌+◌, ◌≤◌, ◌<◌}
-use mathlib.Core.Path.{◌≡◌, sym, ◌∙◌}
-use mathlib.Core.Logic.{◌≢◌}
-use mathlib.Core.List.{List}
-use native.Mathlib.Omega.{arith}
+use Rattle.std.proofs.Common.{ℕ, ◌+◌, ◌≤◌, ◌<◌, ◌≡◌, ◌≢◌, sym, ◌∙◌, List, length, get_or, set, replicate, get_or-set_same, arith}
 use native.Mathlib.Decide.{ℕ_discrete, dec_lt}
-use lib.ListN.{length, get_or, set, replicate, length-replicate, get_or-replicate, get_or-eq_default}
-use lib.Seq.{get_or-set_same}
+use lib.ListN.{length-replicate, get_or-replicate, get_or-eq_default}
 use Rattle.table.specs.Limits.{vertex_limit}
 use Rattle.table.specs.Table.{In, vertices, row, Edge, WellFormed}
 use Rattle.table.proofs.RowLaws.{edge_below, row_below}

@@ -1,14 +1,7 @@
 -- Laws of the queue and of a row that is passed: there is room for a vertex that is not marked, and one vertex more is passed. Assumes nothing.
-use Prim.Native.Nat.{ℕ, zero, suc, ◌+◌, ◌≤◌, ◌<◌}
-use mathlib.Core.Path.{◌≡◌, refl, sym, ◌∙◌, ap}
-use mathlib.Core.Logic.{◌≢◌}
-use mathlib.Core.List.{List, ◌∷◌}
-use native.Mathlib.Nat.{le_of_suc-le-suc}
-use native.Mathlib.Omega.{arith}
+use Rattle.std.proofs.Common.{ℕ, zero, suc, ◌+◌, ◌≤◌, ◌<◌, ◌≡◌, ◌≢◌, refl, sym, ◌∙◌, ap, List, ◌∷◌, length, get_or, set, length-set, get_or-set_same, get_or-set_other, le_of_suc-le-suc}
+use Rattle.std.proofs.Common.{below_more, arith}
 use native.Mathlib.Decide.{ℕ_discrete}
-use lib.ListN.{length, get_or, set, length-set}
-use lib.Seq.{get_or-set_same, get_or-set_other}
-use borrow.Author.Count.{below_more}
 use Rattle.table.specs.Limits.{vertex_limit}
 use Rattle.bubble.proofs.Pigeonhole.{places_below}
 use Rattle.reaching.specs.Steps.{Marked, Queued, Spread}
@@ -82,17 +75,6 @@ module _ {marks queue : List ℕ} {tail u : ℕ} (q : Queued marks queue tail) (
           (i, omega arith, queued_other i (λ e. omega arith) ∙ stands)
     ];
   }
-
--- none of a row is passed yet
-pub spread_none : {row marks queue : List ℕ} {tail to : ℕ} → Queued marks queue tail → Spread row queue tail to 0 marks queue tail
-spread_none q = record {
-  queued = q;
-  longer = omega arith;
-  kept = λ i l. refl;
-  listed = λ i l m. absurd (omega arith);
-  passed = λ j l. absurd (omega arith);
-  unmet = λ j l. absurd (omega (arith, l));
-}
 
 module _ {row queue marks' queue' : List ℕ} {tail to k tail' : ℕ} (s : Spread row queue tail to k marks' queue' tail') (other : get_or row k 0 ≢ to) where
   -- the next is marked already

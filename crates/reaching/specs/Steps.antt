@@ -1,5 +1,5 @@
 -- What the parts of the walk do: the vertices met so far, and a row passed. Assumes nothing.
-use Rattle.std.specs.Prelude.{ℕ, ◌≤◌, ◌<◌, ◌≡◌, ◌⊎◌, List, length, get_or}
+use Rattle.std.specs.Prelude.{ℕ, ◌≤◌, ◌<◌, ◌≡◌, List, length, get_or, Option, Some, None}
 use Rattle.table.specs.Limits.{vertex_limit}
 use Rattle.table.specs.Table.{In, Below}
 use Rattle.reaching.specs.Reaching.{Askable}
@@ -32,9 +32,10 @@ pub record Spread (row queue : List ℕ) (tail to k : ℕ) (marks' queue' : List
   pub passed : (j : ℕ) → j < k → Marked marks' (get_or row j 0)
   pub unmet : (j : ℕ) → j < k → get_or row j 0 ≡ to → ⊥
 
--- 0 where the row holds `to`, and else how far the queue reaches behind the whole row
-abbrev pub Spreads : List ℕ → List ℕ → ℕ → ℕ → List ℕ → List ℕ → ℕ → Type 0
-Spreads row queue tail to marks' queue' r = ((r ≡ 0) × In to row) ⊎ ((0 < r) × Spread row queue tail to (length row) marks' queue' r)
+-- nothing where the row holds `to`, and else how far the queue reaches behind the whole row
+abbrev pub Spreads : List ℕ → List ℕ → ℕ → ℕ → List ℕ → List ℕ → Option ℕ → Type 0
+Spreads row queue tail to marks' queue' None = In to row
+Spreads row queue tail to marks' queue' (Some end) = Spread row queue tail to (length row) marks' queue' end
 
 -- a walk from one vertex to another one can begin: nothing is marked
 pub record WalkReady (starts targets marks queue : List ℕ) (from to : ℕ) : Type 0 where

@@ -1,14 +1,9 @@
 -- The answer is determined: two answers that the contract allows coincide, and their orders show the same vertices. Assumes nothing.
-use Prim.Native.Nat.{ℕ, ◌≤◌, ◌<◌}
-use mathlib.Core.Path.{◌≡◌, refl}
-use mathlib.Core.List.{List}
-use native.Mathlib.Omega.{arith}
-use lib.ListN.{get_or}
+use Rattle.std.proofs.Common.{ℕ, ◌≤◌, ◌<◌, ◌≡◌, refl, ap, Option, Some, None, List, arith, get_or}
 use Rattle.bubble.proofs.Unique.{exit_unique}
 use Rattle.parents.proofs.PlaceLaws.{in_take, take_in}
 use Rattle.walking.proofs.ShownLaws.{shown_most}
 use Rattle.search.specs.declared.Exit.{Exit}
-use Rattle.search.specs.declared.Exit.TheVariants.{At, Nothing}
 use Rattle.search.specs.Search.{Visited, Searched}
 
 module _ {starts targets order order' : List ℕ} {s t k k' : ℕ} (a : Visited starts targets order s t k) (b : Visited starts targets order' s t k') where
@@ -21,12 +16,12 @@ module _ {starts targets order order' : List ℕ} {s t k k' : ℕ} (a : Visited 
   no_more : k ≤ k'
   no_more = shown_most order order' k k' a.apart shown
 
-pub answer_unique : (starts targets order order' : List ℕ) (s : ℕ) (exit exit' : Exit) → Searched starts targets s exit order → Searched starts targets s exit' order' → exit ≡ exit'
-answer_unique starts targets order order' s (At t k) (At t' k') a b =
-    let q : t ≡ t' = exit_unique a.superbubble b.superbubble in
+pub answer_unique : (starts targets order order' : List ℕ) (s : ℕ) (exit exit' : Option Exit) → Searched starts targets s exit order → Searched starts targets s exit' order' → exit ≡ exit'
+answer_unique starts targets order order' s (Some e) (Some e') a b =
+    let q : e.vertex ≡ e'.vertex = exit_unique a.superbubble b.superbubble in
     let c = rw (← q) at b in
-    let p : k ≡ k' = omega (arith, no_more a c, no_more c a) in
-    λ i. At (q i) (p i)
-answer_unique starts targets order order' s (At t k) Nothing a b = absurd (b t a.superbubble)
-answer_unique starts targets order order' s Nothing (At t k) a b = absurd (a t b.superbubble)
-answer_unique starts targets order order' s Nothing Nothing a b = refl
+    let p : e.visited ≡ e'.visited = omega (arith, no_more a c, no_more c a) in
+    ap Some (λ i. record { vertex = q i; visited = p i })
+answer_unique starts targets order order' s (Some e) None a b = absurd (b e.vertex a.superbubble)
+answer_unique starts targets order order' s None (Some e) a b = absurd (a e.vertex b.superbubble)
+answer_unique starts targets order order' s None None a b = refl

@@ -1,11 +1,6 @@
 -- Laws of where the search ends: a lone ready vertex is the exit, and without a ready vertex there is none. Assumes nothing.
-use Prim.Native.Nat.{ℕ, zero, suc, ◌+◌, ◌-◌, ◌≤◌, ◌<◌}
-use mathlib.Core.Path.{◌≡◌, sym, ◌∙◌, ap}
-use mathlib.Core.Logic.{◌≢◌}
-use mathlib.Core.List.{List}
-use native.Mathlib.Omega.{arith}
+use Rattle.std.proofs.Common.{ℕ, zero, suc, ◌+◌, ◌-◌, ◌≤◌, ◌<◌, ◌≡◌, sym, ◌∙◌, ap, ◌≢◌, List, arith, length, get_or, take}
 use native.Mathlib.Decide.{ℕ_discrete, dec_lt}
-use lib.ListN.{length, get_or, take}
 use Rattle.table.specs.Table.{vertices, row, In, Edge}
 use Rattle.table.proofs.RowLaws.{edges_below}
 use Rattle.bubble.specs.Superbubble.{F, Walk, Walk.edge, Bubbloid}

@@ -1,12 +1,6 @@
 -- The search under way: what holds before each visit, and that no exit is missed. Assumes nothing.
-use Prim.Native.Nat.{ℕ, zero, suc, ◌+◌, ◌≤◌, ◌<◌}
-use mathlib.Core.Path.{◌≡◌, refl, sym, ◌∙◌, ap}
-use mathlib.Core.Logic.{◌≢◌, ◌⊎◌, inl, inr, ⊎_elim}
-use mathlib.Core.List.{List, []}
-use native.Mathlib.Omega.{arith}
+use Rattle.std.proofs.Common.{ℕ, zero, suc, ◌+◌, ◌≤◌, ◌<◌, ◌≡◌, refl, sym, ◌∙◌, ap, ◌≢◌, ◌⊎◌, inl, inr, ⊎_elim, List, [], arith, length, get_or, take, set, length-set, get_or-set_same}
 use native.Mathlib.Decide.{ℕ_discrete, dec_lt}
-use lib.ListN.{length, get_or, take, set, length-set}
-use lib.Seq.{get_or-set_same}
 use Rattle.table.specs.Table.{vertices, row, In, Edge, WellFormed}
 use Rattle.bubble.specs.Superbubble.{F, F.start, F.on, B, B.end, B.from, Bubbloid}
 use Rattle.bubble.proofs.Facts.{no_edge_to_entrance, successor}

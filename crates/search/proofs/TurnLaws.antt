@@ -1,11 +1,6 @@
 -- Laws of a turn of the search: the row of the vertex at the head can be passed, and the search goes on behind it. Assumes nothing.
-use Prim.Native.Nat.{ℕ, ◌+◌, ◌≤◌, ◌<◌}
-use mathlib.Core.Path.{◌≡◌, refl, sym, ◌∙◌, ap}
-use mathlib.Core.Logic.{◌≢◌}
-use mathlib.Core.List.{List}
-use native.Mathlib.Omega.{arith}
+use Rattle.std.proofs.Common.{ℕ, ◌+◌, ◌≤◌, ◌<◌, ◌≡◌, refl, sym, ◌∙◌, ap, ◌≢◌, List, arith, length, get_or, take}
 use native.Mathlib.Decide.{ℕ_discrete, dec_lt}
-use lib.ListN.{length, get_or, take}
 use lib.Seq.{take-length}
 use Rattle.table.specs.Table.{vertices, row, In, Edge}
 use Rattle.table.proofs.RowLaws.{row_below, edges_below}

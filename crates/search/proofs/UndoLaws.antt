@@ -1,10 +1,5 @@
 -- Laws of the undoing: the row of the vertex visited last is given back. Assumes nothing.
-use Prim.Native.Nat.{ℕ, ◌+◌, ◌<◌}
-use mathlib.Core.Path.{◌≡◌, sym, ◌∙◌}
-use mathlib.Core.List.{List}
-use native.Mathlib.Omega.{arith}
-use lib.ListN.{length, get_or, take}
-use lib.Seq.{ext_get_or}
+use Rattle.std.proofs.Common.{ℕ, ◌+◌, ◌<◌, ◌≡◌, sym, ◌∙◌, List, arith, length, get_or, take, ext_get_or}
 use Rattle.table.specs.Table.{vertices, row, WellFormed}
 use Rattle.table.proofs.RowLaws.{row_below}
 use Rattle.parents.specs.Parents.{occurrences, Parents, Tallying, Tallied}

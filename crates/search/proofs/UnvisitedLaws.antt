@@ -1,12 +1,6 @@
 -- Laws of how many edges lead to a vertex from vertices that are not visited. Assumes nothing.
-use Prim.Native.Nat.{ℕ, zero, suc, ◌+◌, ◌≤◌, ◌<◌}
-use mathlib.Core.Path.{◌≡◌, refl, sym, ◌∙◌, ap}
-use mathlib.Core.Logic.{◌≢◌}
-use mathlib.Core.List.{List, []}
-use native.Mathlib.Numerals.{add-one}
-use native.Mathlib.Omega.{arith}
+use Rattle.std.proofs.Common.{ℕ, zero, suc, ◌+◌, ◌≤◌, ◌<◌, ◌≡◌, refl, sym, ◌∙◌, ap, ◌≢◌, List, [], add-one, arith, length, get_or, take}
 use native.Mathlib.Decide.{dec_lt}
-use lib.ListN.{length, get_or, take}
 use lib.Seq.{take-length}
 use Rattle.table.specs.Table.{vertices, row, In, Edge, WellFormed}
 use Rattle.table.proofs.RowLaws.{targets_to_next}

@@ -1,5 +1,5 @@
 -- What the parts of the search do: the vertices visited so far, and where the visits end. Assumes nothing.
-use Rattle.std.specs.Prelude.{ℕ, zero, suc, ◌+◌, ◌<◌, ◌≤◌, ◌≡◌, List, length, get_or, take}
+use Rattle.std.specs.Prelude.{ℕ, zero, suc, ◌+◌, ◌<◌, ◌≤◌, ◌≡◌, List, Option, length, get_or, take}
 use Rattle.table.specs.Table.{vertices, row}
 use Rattle.parents.specs.Parents.{occurrences}
 use Rattle.walking.specs.Walking.{sum_below}
@@ -30,7 +30,7 @@ pub record Alone (head tail waiting : ℕ) : Type 0 where
   pub nowhere : waiting ≡ 0
 
 -- where the visits end: the answer, and the pending parents
-pub record Ran (starts targets pending order order' : List ℕ) (s : ℕ) (exit : Exit) (visited : ℕ) : Type 0 where
+pub record Ran (starts targets pending order order' : List ℕ) (s : ℕ) (exit : Option Exit) (visited : ℕ) : Type 0 where
   pub same : length order' ≡ length order
   pub searched : Searched starts targets s exit order'
   pub lowered : Lowered starts targets pending order' visited

@@ -5,9 +5,9 @@ mod visits;
 
 pub use visits::search;
 
-// What the search finds: the exit, and how many vertices were visited on the way to it.
+// The exit that a search finds, and how many vertices were visited on the way to it.
 #[derive(Clone, Copy)]
-pub enum Exit {
-    At(u32, usize),
-    Nothing,
+pub struct Exit {
+    pub vertex: u32,
+    pub visited: usize,
 }

@@ -7,12 +7,13 @@ ghost use Rattle.search.specs.Steps.{Alone, Lowered, Ran};
 
 use crate::Exit;
 use parents::tally;
+use table::{Rows, holds};
 use walking::{Front, walk};
 
 // What a search found, and how many vertices it visited.
 #[derive(Clone, Copy)]
 pub struct Run {
-    pub exit: Exit,
+    pub exit: Option<Exit>,
     pub visited: usize,
 }
 
@@ -21,29 +22,13 @@ fn alone(head: usize, front: Front) -> bool
     requires { head < front.tail }
     ensures { Says result (Alone head front.tail front.waiting) }
 {
-    if head == 0 {
-        return false;
-    }
-    if front.tail != head + 1 {
-        return false;
-    }
-    if front.waiting != 0 {
-        return false;
-    }
-    true
+    head != 0 && front.tail == head + 1 && front.waiting == 0
 }
 
 // Visits vertices from s on, until one is the exit or there can be none. The first `head` of the order are visited, those up to the front's tail are ready.
-fn visit(
-    starts: &[u32],
-    targets: &[u32],
-    parents: &[u32],
-    pending: &mut [u32],
-    order: &mut [u32],
-    s: u32,
-) -> Run
-    requires { Searchable starts.now targets.now parents.now pending.old order.old s }
-    ensures { Ran starts.now targets.now pending.new order.old order.new s
+fn visit(rows: &Rows, parents: &[u32], pending: &mut [u32], order: &mut [u32], s: u32) -> Run
+    requires { Searchable rows.now.starts rows.now.targets parents.now pending.old order.old s }
+    ensures { Ran rows.now.starts rows.now.targets pending.new order.old order.new s
         result.exit result.visited }
 {
     order[0] = s;
@@ -52,24 +37,29 @@ fn visit(
         tail: 1,
         waiting: 0,
     };
+    // A while, since each row that is walked makes the queue longer.
     while head < front.tail {
         let v = order[head];
-        let row = table::row(starts, targets, v as usize);
-        if table::holds(row, s) {
+        let row = rows.row(v as usize);
+        if holds(row, s) {
             return Run {
-                exit: Exit::Nothing,
+                exit: None,
                 visited: head,
             };
         }
         if alone(head, front) {
+            let found = Exit {
+                vertex: v,
+                visited: head,
+            };
             return Run {
-                exit: Exit::At(v, head),
+                exit: Some(found),
                 visited: head,
             };
         }
-        if row.len() == 0 {
+        if row.is_empty() {
             return Run {
-                exit: Exit::Nothing,
+                exit: None,
                 visited: head,
             };
         }
@@ -77,39 +67,35 @@ fn visit(
         head += 1;
     }
     Run {
-        exit: Exit::Nothing,
+        exit: None,
         visited: head,
     }
 }
 
 // Gives back what the rows of the visited vertices took, the last first.
-fn undo(starts: &[u32], targets: &[u32], pending: &mut [u32], order: &[u32], visited: usize)
-    requires well_formed { WellFormed starts.now targets.now }
-    requires lowered { Lowered starts.now targets.now pending.old order.now visited }
-    ensures { Lowered starts.now targets.now pending.new order.now 0 }
+fn undo(rows: &Rows, pending: &mut [u32], order: &[u32], visited: usize)
+    requires well_formed { WellFormed rows.now.starts rows.now.targets }
+    requires lowered { Lowered rows.now.starts rows.now.targets pending.old order.now visited }
+    ensures { Lowered rows.now.starts rows.now.targets pending.new order.now 0 }
 {
-    let mut k = visited;
-    while k > 0 {
-        k -= 1;
-        let v = order[k] as usize;
-        tally(table::row(starts, targets, v), pending);
+    for k in (0..visited).rev() {
+        tally(rows.row(order[k] as usize), pending);
     }
 }
 
 // From an entrance to its exit, if it has one. The pending parents are all the parents again at the end.
 pub fn search(
-    starts: &[u32],
-    targets: &[u32],
+    rows: &Rows,
     parents: &[u32],
     pending: &mut [u32],
     order: &mut [u32],
     s: u32,
-) -> Exit
-    requires { Searchable starts.now targets.now parents.now pending.old order.old s }
-    ensures { Sought starts.now targets.now pending.old order.old pending.new
+) -> Option<Exit>
+    requires { Searchable rows.now.starts rows.now.targets parents.now pending.old order.old s }
+    ensures { Sought rows.now.starts rows.now.targets pending.old order.old pending.new
         order.new s result }
 {
-    let run = visit(starts, targets, parents, pending, order, s);
-    undo(starts, targets, pending, order, run.visited);
+    let run = visit(rows, parents, pending, order, s);
+    undo(rows, pending, order, run.visited);
     run.exit
 }

@@ -1,10 +1,5 @@
 -- What sharing leaves is determined. Assumes nothing.
-use Prim.Native.Nat.{ℕ, ◌<◌}
-use mathlib.Core.Path.{◌≡◌, sym, ◌∙◌}
-use mathlib.Core.List.{List}
-use native.Mathlib.Omega.{arith}
-use lib.ListN.{get_or}
-use lib.Seq.{ext_get_or}
+use Rattle.std.proofs.Common.{ℕ, ◌<◌, ◌≡◌, sym, ◌∙◌, List, arith, get_or, ext_get_or}
 use Rattle.bubble.proofs.Pigeonhole.{place_of}
 use Rattle.bubble.proofs.Reflect.{decided, decides_member}
 use Rattle.sharing.specs.Sharing.{onward, Shared}

@@ -1,12 +1,6 @@
 -- Laws of sharing: the next vertex of the path has room for its portion, and with it one place more is shared. Assumes nothing.
-use Prim.Native.Nat.{ℕ, zero, suc, ◌+◌, ◌≤◌, ◌<◌}
-use mathlib.Core.Path.{◌≡◌, refl, sym, ap, ◌∙◌}
-use mathlib.Core.List.{List, ◌∷◌}
-use native.Mathlib.Numerals.{add-one}
-use native.Mathlib.Omega.{arith}
+use Rattle.std.proofs.Common.{ℕ, zero, suc, ◌+◌, ◌≤◌, ◌<◌, ◌≡◌, refl, sym, ap, ◌∙◌, List, ◌∷◌, add-one, arith, length, get_or, set, length-set, get_or-set_same, get_or-set_other}
 use native.Mathlib.Decide.{ℕ_discrete}
-use lib.ListN.{length, get_or, set, length-set}
-use lib.Seq.{get_or-set_same, get_or-set_other}
 use Rattle.table.specs.Limits.{read_limit}
 use Rattle.table.proofs.SumLaws.{count_most}
 use Rattle.bubble.proofs.Pigeonhole.{getD_in}
@@ -23,10 +17,6 @@ pub onward_next : (next : List ℕ) (v k j : ℕ) → j < k → get_or (onward n
 onward_next next v zero j h = absurd (omega arith)
 onward_next next v (suc k) zero h = refl
 onward_next next v (suc k) (suc j) h = onward_next next (get_or next v 0) k j (omega arith)
-
--- before the first place
-pub share_none : {counts next out : List ℕ} {s k d : ℕ} → Shared counts next out s k d 0 out
-share_none = record { added = λ i h. absurd (omega arith); elsewhere = λ v n. refl; same_out = refl }
 
 module _ {counts next out : List ℕ} {s k d : ℕ} (p : Shareable counts next out s k d) (j : ℕ) (h : j < k) where
   abbrev here : ℕ

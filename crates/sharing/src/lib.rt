@@ -6,6 +6,7 @@ ghost use Rattle.rule.specs.Fold.{one_more};
 ghost use Rattle.sharing.specs.Sharing.{Shareable, Shared};
 
 // What place j gets, where each gets the quotient and the first ones, as many as the remainder, one more.
+#[tactic(auto, using(rule::proofs::Shares::one_more_first, rule::proofs::Shares::one_more_after))]
 fn portion(quotient: u64, remainder: u64, j: u64) -> u64
     requires { quotient < 18446744073709551615 }
     ensures { result ≡ quotient + one_more remainder j }
@@ -19,15 +20,7 @@ fn portion(quotient: u64, remainder: u64, j: u64) -> u64
 // Goes the kept path from the entrance s once more. Each of its k inner vertices gets its portion beside its own count.
 pub fn share(counts: &[u64], next: &[u32], out: &mut [u64], s: u32, k: u64, dropped: u64)
     requires { Shareable counts.now next.now out.old s k dropped }
-    ensures { Shared
-        counts.now
-        next.now
-        out.old
-        s
-        k
-        dropped
-        k
-        out.new }
+    ensures { Shared counts.now next.now out.old s k dropped k out.new }
 {
     if k == 0 {
         return;
@@ -35,11 +28,9 @@ pub fn share(counts: &[u64], next: &[u32], out: &mut [u64], s: u32, k: u64, drop
     let quotient = dropped / k;
     let remainder = dropped % k;
     let mut v = s as usize;
-    let mut j = 0;
-    while j < k {
+    for j in 0..k {
         let u = next[v] as usize;
         out[u] = counts[u] + portion(quotient, remainder, j);
         v = u;
-        j += 1;
     }
 }

@@ -1,14 +1,9 @@
 -- How long the text of what an image holds is: at most 92,184 bytes; how the text of a row grows with each successor, and what is said of a length.
 -- Assumes nothing.
-use Prim.Native.Nat.{ℕ, zero, suc, ◌+◌, ◌*◌, ◌≤◌, ◌<◌, zero-le}
-use mathlib.Core.Path.{◌≡◌, ap, ◌∙◌}
-use mathlib.Core.Logic.{◌≢◌}
-use mathlib.Core.List.{List, [], ◌∷◌, ◌++◌, map, map-append, append-nil}
+use Rattle.std.proofs.Common.{ℕ, zero, suc, ◌+◌, ◌*◌, ◌≤◌, ◌<◌, zero-le, ◌≡◌, ap, ◌∙◌, ◌≢◌, List, [], ◌∷◌, ◌++◌, map, append-nil, add-one, arith, length, get_or, take}
+use Rattle.std.proofs.Common.{length-append, take-suc}
+use mathlib.Core.List.{map-append}
 use native.Mathlib.Decide.{ℕ_discrete}
-use native.Mathlib.Numerals.{add-one}
-use native.Mathlib.Omega.{arith}
-use lib.ListN.{length, get_or, take, length-append}
-use lib.Seq.{take-suc}
 use Rattle.table.specs.Limits.{vertex_limit}
 use Rattle.table.specs.Table.{Below, row, size}
 use Rattle.table.proofs.RowLaws.{next_start, row_below}
@@ -135,21 +130,19 @@ module _ {version : ℕ} {contents : Contents} (ok : SoundContents version conte
       ))
 
   -- the line `table N M`, in version 2 `table N M lengths`
-  pub heading_long : length (line (sizes_line version (length contents.table.counts) (length contents.table.rows.targets))) ≤ 24
+  pub heading_long : length (line (sizes_line version (size contents.table.rows) (length contents.table.rows.targets))) ≤ 24
   heading_long =
       let whole = ok.counted.well_formed in
-      sizes_line_most version (length contents.table.counts) (length contents.table.rows.targets)
-      (omega (arith, ok.counted.count_each, whole.most_vertices)) whole.most_edges
+      sizes_line_most version (size contents.table.rows) (length contents.table.rows.targets) (omega (arith, whole.most_vertices)) whole.most_edges
 
   -- the text: that line, and the lines of the vertices
   pub contents_by_lines :
       length (text (contents_lines version contents))
-      ≡ length (line (sizes_line version (length contents.table.counts) (length contents.table.rows.targets)))
+      ≡ length (line (sizes_line version (size contents.table.rows) (length contents.table.rows.targets)))
       + length (text (each (vertex_line version contents) (size contents.table.rows)))
   contents_by_lines =
       let n = size contents.table.rows in
-      rw ok.counted.count_each
-      (length-append (line (sizes_line version n (length contents.table.rows.targets))) (text (each (vertex_line version contents) n)))
+      length-append (line (sizes_line version n (length contents.table.rows.targets))) (text (each (vertex_line version contents) n))
 
   -- and how long it is
   pub contents_long : length (text (contents_lines version contents)) ≤ 92184

@@ -1,9 +1,8 @@
 -- What is asked of an exit that a search found, and what is left of it where rings are taken. Assumes nothing.
-use Rattle.std.specs.Prelude.{ℕ, ◌≤◌, ◌<◌, List}
+use Rattle.std.specs.Prelude.{ℕ, ◌≤◌, ◌<◌, List, Option, Some, None}
 use Rattle.table.specs.Table.{vertices, WellFormed}
 use Rattle.bubble.specs.Superbubble.{Reaches}
 use Rattle.search.specs.declared.Exit.{Exit}
-use Rattle.search.specs.declared.Exit.TheVariants.{At, Nothing}
 use Rattle.rule.specs.Lists.{Graph}
 use Rattle.rule.specs.declared.Rings.{Rings}
 use Rattle.rule.specs.declared.Rings.TheVariants.{Refused, Taken}
@@ -25,13 +24,13 @@ pub record Skips (E : Graph) (s t visited : ℕ) : Type 0 where
   pub leads_back : LeadsBack E s t
 
 -- what a search from s found: an exit that is a vertex, or nothing
-abbrev pub Found : List ℕ → List ℕ → ℕ → Exit → Type 0
-Found starts targets s (At t visited) = Pair starts targets s t
-Found starts targets s Nothing = Unit {0}
+abbrev pub Found : List ℕ → List ℕ → ℕ → Option Exit → Type 0
+Found starts targets s (Some exit) = Pair starts targets s exit.vertex
+Found starts targets s None = Unit {0}
 
 -- what is left of it: where rings are refused all, and where they are taken all but what is skipped
-pub data Admitted (E : Graph) (s : ℕ) : Rings → Exit → Exit → Type 0 where
-  unasked : {exit : Exit} → Admitted E s Refused exit exit
-  nothing : Admitted E s Taken Nothing Nothing
-  passed : {t visited : ℕ} → (Skips E s t visited → ⊥) → Admitted E s Taken (At t visited) (At t visited)
-  skipped : {t visited : ℕ} → Skips E s t visited → Admitted E s Taken (At t visited) Nothing
+pub data Admitted (E : Graph) (s : ℕ) : Rings → Option Exit → Option Exit → Type 0 where
+  unasked : {exit : Option Exit} → Admitted E s Refused exit exit
+  nothing : Admitted E s Taken None None
+  passed : {exit : Exit} → (Skips E s exit.vertex exit.visited → ⊥) → Admitted E s Taken (Some exit) (Some exit)
+  skipped : {exit : Exit} → Skips E s exit.vertex exit.visited → Admitted E s Taken (Some exit) None

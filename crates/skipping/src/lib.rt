@@ -3,40 +3,31 @@
 #![tactic(auto)]
 
 ghost use Rattle.table.specs.Verdict.{Says};
-ghost use Rattle.table.specs.Table.{Edge};
+ghost use Rattle.table.specs.Table.{edges};
 ghost use Rattle.skipping.specs.Skipping.{Pair, LeadsBack, Found, Admitted};
 
 use reaching::reaches;
 use rule::Rings;
 use search::Exit;
+use table::Rows;
 
 // Whether there is a bare edge from s to t, and t reaches s.
-fn leads_back(starts: &[u32], targets: &[u32], s: u32, t: u32) -> bool
-    requires { Pair starts.now targets.now s t }
-    ensures { Says result (LeadsBack (Edge starts.now targets.now) s t) }
+#[tactic(auto, using(table::proofs::RowLaws::row_lies))]
+fn leads_back(rows: &Rows, s: u32, t: u32) -> bool
+    requires { Pair rows.now.starts rows.now.targets s t }
+    ensures { Says result (LeadsBack (edges rows.now) s t) }
 {
-    if table::holds(table::row(starts, targets, s as usize), t) {
-        return reaches(starts, targets, t, s);
-    }
-    false
+    table::holds(rows.row(s as usize), t) && reaches(rows, t, s)
 }
 
 // The exit that the search from s found, or none where its superbubble is skipped. Most that are found have no interior: that is asked first.
-pub fn admit(rings: Rings, starts: &[u32], targets: &[u32], s: u32, exit: Exit) -> Exit
-    requires { Found starts.now targets.now s exit }
-    ensures { Admitted (Edge starts.now targets.now) s rings exit result }
+pub fn admit(rings: Rings, rows: &Rows, s: u32, exit: Option<Exit>) -> Option<Exit>
+    requires { Found rows.now.starts rows.now.targets s exit }
+    ensures { Admitted (edges rows.now) s rings exit result }
 {
-    let Exit::At(t, visited) = exit else {
-        return exit;
-    };
-    if visited < 2 {
-        return exit;
+    match (rings, exit) {
+        (Rings::Taken, Some(found)) if found.visited >= 2 && leads_back(rows, s, found.vertex) =>
+            None,
+        _ => exit,
     }
-    let Rings::Taken = rings else {
-        return exit;
-    };
-    if leads_back(starts, targets, s, t) {
-        return Exit::Nothing;
-    }
-    exit
 }

@@ -1,10 +1,6 @@
 -- Two results that the contract of write_table allows coincide: the edge count and all memory lent. Assumes nothing.
-use Prim.Native.Nat.{ℕ, ◌+◌, ◌<◌}
-use mathlib.Core.Path.{◌≡◌, sym, ap, ap₂, ◌∙◌}
-use mathlib.Core.List.{List, ◌++◌}
+use Rattle.std.proofs.Common.{ℕ, ◌+◌, ◌<◌, ◌≡◌, sym, ap, ap₂, ◌∙◌, List, ◌++◌, arith, length, get_or, drop}
 use native.Mathlib.Decide.{dec_lt}
-use native.Mathlib.Omega.{arith}
-use lib.ListN.{length, get_or, drop}
 use Rattle.table.specs.Table.{Rows, size, edges}
 use Rattle.rule.proofs.SameTable.{same_rows}
 use Rattle.staying.specs.Staying.{EdgesStay, TableWritten}

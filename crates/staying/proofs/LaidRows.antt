@@ -1,14 +1,9 @@
 -- A table laid out from its rows, one after the other: where each row rises and has only vertices, it is well-formed, and these are its rows. Assumes nothing.
-use Prim.Native.Nat.{ℕ, zero, suc, ◌+◌, ◌-◌, ◌≤◌, ◌<◌}
-use mathlib.Core.Path.{◌≡◌, refl, ap, ◌∙◌}
-use mathlib.Core.Logic.{◌↔◌}
-use mathlib.Core.List.{List, [], ◌∷◌, ◌++◌}
-use native.Mathlib.Nat.{not-suc-le-zero, le_refl}
+use Rattle.std.proofs.Common.{ℕ, zero, suc, ◌+◌, ◌-◌, ◌≤◌, ◌<◌, ◌≡◌, refl, ap, ◌∙◌, ◌↔◌, List, [], ◌∷◌, ◌++◌}
+use Rattle.std.proofs.Common.{not-suc-le-zero, le_refl, add-one, arith, length, get_or, take, drop, length-append, length-drop, get_or-append-add, drop_at}
 use native.Mathlib.Decide.{ℕ_discrete, dec_lt}
-use native.Mathlib.Numerals.{add-one}
-use native.Mathlib.Omega.{arith}
-use lib.ListN.{length, get_or, take, drop, length-append, length-drop, get_or-append}
-use lib.Seq.{get_or_at, get_or-append-add, take-length, drop_at, take-append-le, drop-append-le}
+use lib.ListN.{get_or-append}
+use lib.Seq.{get_or_at, take-length, take-append-le, drop-append-le}
 use Rattle.table.specs.Limits.{vertex_limit, edge_limit}
 use Rattle.table.specs.Table.{vertices, row, In, Edge, Rises, Below, StartsFit, WellFormed}
 

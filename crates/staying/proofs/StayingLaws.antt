@@ -1,20 +1,9 @@
 -- What stays of a row, by what next says beside n, and what it keeps of the row. Assumes nothing.
-use Prim.Native.Nat.{ℕ, suc, ◌+◌, ◌≤◌, ◌<◌}
-use mathlib.Core.Path.{◌≡◌, refl, sym, ap, ap₂, ◌∙◌}
-use mathlib.Core.Logic.{◌↔◌}
-use mathlib.Core.Bool.{Bool}
-use mathlib.Core.List.{List, [], ◌∷◌}
-use native.Mathlib.Nat.{not-suc-le-zero, le_refl}
+use Rattle.std.proofs.Common.{ℕ, ◌≤◌, ◌<◌, ◌≡◌, sym, ap, ap₂, ◌↔◌, Bool, List, [], ◌∷◌, not-suc-le-zero, le_refl, arith, ltb, length, lt-ltb, le-ltb}
 use native.Mathlib.Decide.{dec_lt}
-use native.Mathlib.Numerals.{add-one}
-use native.Mathlib.Omega.{arith}
-use lib.Dec.{ltb}
-use lib.ListN.{length, take, drop, set}
-use lib.Seq.{set_split, append_snoc, paste-zero}
-use borrow.Author.Tests.{lt-ltb, le-ltb}
 use Rattle.table.specs.Table.{In, Rises, Below}
 use Rattle.rule.specs.Next.{whole_row}
-use Rattle.staying.specs.Staying.{chosen, staying, Put}
+use Rattle.staying.specs.Staying.{chosen, staying}
 
 module _ (n next : ℕ) (row : List ℕ) where
   pub stays_none : whole_row n < next → staying n next row ≡ []
@@ -52,13 +41,3 @@ in_one v x = (
   λ i. let first : i.place ≡ 0 = omega (arith, i.inside) in sym (rw first at i.stands),
   λ e. record { place = 0; inside = omega arith; stands = sym e },
 )
-
-pub put_none : (out : List ℕ) (at : ℕ) → Put [] out out at at
-put_none out at = record { written = paste-zero out at []; behind = omega arith }
-
-pub put_one : (out : List ℕ) (at x : ℕ) → at < length out → Put (x ∷ []) out (set out at x) at (at + 1)
-put_one out at x h =
-    record {
-      written = rw (add-one at) (set_split out at x h ∙ sym (append_snoc (take at out) x (drop (suc at) out)));
-      behind = refl;
-    }

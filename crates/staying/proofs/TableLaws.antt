@@ -1,12 +1,7 @@
 -- The new table while it is written: what holds after each vertex, from the first to the last. Assumes nothing.
-use Prim.Native.Nat.{ℕ, suc, ◌+◌, ◌≤◌, ◌<◌}
-use mathlib.Core.Path.{◌≡◌, refl, sym, ap, ◌∙◌}
-use mathlib.Core.List.{List, [], ◌∷◌, ◌++◌}
-use native.Mathlib.Nat.{not-suc-le-zero}
-use native.Mathlib.Numerals.{add-one}
-use native.Mathlib.Omega.{arith}
-use lib.ListN.{length, get_or, drop, set, length-append, length-drop}
-use lib.Seq.{take_at, drop_at, drop-drop, take-length}
+use Rattle.std.proofs.Common.{ℕ, suc, ◌+◌, ◌≤◌, ◌<◌, ◌≡◌, refl, sym, ap, ◌∙◌, List, [], ◌∷◌, ◌++◌}
+use Rattle.std.proofs.Common.{not-suc-le-zero, add-one, arith, length, get_or, drop, set, length-append, length-drop, take_at, drop_at, drop-drop}
+use lib.Seq.{take-length}
 use Rattle.table.specs.Table.{row, Rows, size}
 use Rattle.table.proofs.RowLaws.{start_most, row_below, next_start}
 use Rattle.table.proofs.FrontLaws.{front_more}
@@ -63,9 +58,6 @@ pub record RowsWritten (rows : Rows) (next : List ℕ) (lent after : Rows) (at v
   pub starts_front : after.starts ≡ begins (new_row rows next) v ++ drop v lent.starts
   pub targets_front : after.targets ≡ laid (new_row rows next) v ++ drop at lent.targets
 
-pub written_none : {rows lent : Rows} {next : List ℕ} → RowsWritten rows next lent lent 0 0
-written_none = record { passed = omega arith; place = refl; few = omega arith; starts_front = refl; targets_front = refl }
-
 module _ {rows : Rows} {next : List ℕ} {lent : Rows} (ready : TableReady rows next lent) where
   open rows use {starts, targets}
 
@@ -77,12 +69,7 @@ module _ {rows : Rows} {next : List ℕ} {lent : Rows} (ready : TableReady rows 
     pub place_most : at ≤ length targets
     place_most = omega (arith, done.few, start_most starts (length targets) ready.well_formed.starts_fit v (omega (arith, done.passed, ready.well_formed.some)))
 
-    -- the slices keep their lengths
-    pub starts_length : length after.starts ≡ length lent.starts
-    starts_length =
-        ap length done.starts_front ∙ length-append (begins (new_row rows next) v) (drop v lent.starts)
-        ∙ omega (arith, begins_length (new_row rows next) v, length-drop v lent.starts, done.passed, ready.starts_room)
-
+    -- the targets keep their length
     pub targets_length : length after.targets ≡ length lent.targets
     targets_length =
         ap length done.targets_front ∙ length-append (laid (new_row rows next) v) (drop at lent.targets)

@@ -5,3 +5,4 @@ pub mod SumLaws
 pub mod FrontLaws
 pub mod VerdictLaws
 pub mod Accepted
+pub mod RefusalLaws

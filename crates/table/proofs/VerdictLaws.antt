@@ -3,19 +3,8 @@ use Prim.Native.Nat.{ℕ}
 use mathlib.Core.Path.{◌≡◌, refl, sym, ◌∙◌}
 use mathlib.Core.Logic.{inl, inr}
 use mathlib.Core.List.{List, [], ◌∷◌, ◌++◌}
-use mathlib.Core.Bool.{Bool, true, false, not}
-use native.Mathlib.Omega.{arith}
+use mathlib.Core.Bool.{Bool, true, false}
 use Rattle.table.specs.Verdict.{Demand, Verdict, AllMet, NeverZero, Says}
-
--- a test that was answered with no
-pub says_no : (P : Type 0) (b : Bool) → Says b P → not b ≡ true → P → ⊥
-says_no P true s e p = let z : ◌≡◌ {A = ℕ} 0 1 = cc in omega arith
-says_no P false s e p = s p
-
--- a test that was answered with yes
-pub says_yes : (P : Type 0) (b : Bool) → Says b P → not b ≡ false → P
-says_yes P true s e = s
-says_yes P false s e = let z : ◌≡◌ {A = ℕ} 0 1 = cc in absurd (let no : ⊥ = omega arith in no)
 
 -- a test's answer is determined
 pub says_unique : (P : Type 0) (b b' : Bool) → Says b P → Says b' P → b ≡ b'

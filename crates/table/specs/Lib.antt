@@ -3,4 +3,5 @@ pub mod Limits
 pub mod Table
 pub mod Verdict
 pub mod Numbers
+pub mod Refusals
 pub mod Lent

@@ -1,12 +1,14 @@
 // A graph table over lent slices: its rows, and the check that gives the numbers 1 to 7 (docs/RULES.md, Numbers).
 #![tactic(auto)]
 
-mod checks;
-mod counts;
+mod counted;
 mod limits;
+mod numbers;
+mod refusal;
 mod rows;
 
-pub use checks::{check, check_counted};
-pub use counts::sum_fits;
+pub use counted::Table;
 pub use limits::{EDGE_LIMIT, Limits, READ_LIMIT, START_LIMIT, VERTEX_LIMIT, stated_limits};
-pub use rows::{holds, rises, row};
+pub use numbers::{Numbers, Wide, all_below, rises, rows_rise, starts_fit, sum_fits};
+pub use refusal::Refusal;
+pub use rows::{Rows, holds};

@@ -11,18 +11,18 @@ use Rattle.table.specs.Lent.{fronts}
 use Rattle.layout.specs.Lengths.{length_count}
 use Rattle.layout.specs.Image.{Contents, SoundContents, starts_of, targets_of, counts_of, lengths_of, table_of, contents_of}
 use Rattle.layout.proofs.ImageLaws.{starts_long, targets_long, counts_long, lengths_long}
-use Rattle.image.specs.declared.header.Sizes.{Sizes}
+use Rattle.image.specs.Looking.{Seen}
 use Rattle.image.specs.Looking.{contents_room, contents_fronts, Looked, Loaded}
 use Rattle.image.proofs.LookLaws.{looked_met, looked_says, contents_sound}
 use Rattle.image.proofs.LoadLaws.{fronts_hold, looked_table, fronts_exact, exact_contents}
 use Rattle.taking.specs.Taking.{TakenIn}
 
 -- an image that look refuses is not loaded
-pub refused_taken : {image : List ℕ} {lent : Contents} {answer : Sizes} → Looked image answer → (answer.number ≡ 0 → ⊥) → TakenIn image lent lent answer
+pub refused_taken : {image : List ℕ} {lent : Contents} {answer : Seen} → Looked image answer → (answer.number ≡ 0 → ⊥) → TakenIn image lent lent answer
 refused_taken sees refusal = record { looked = sees; loaded = λ e. absurd (refusal e); refused = λ _. refl }
 
 -- one that it accepts is loaded into the fronts, and stands there
-pub loaded_taken : {image : List ℕ} {lent after : Contents} {answer loaded : Sizes} {count : ℕ} → Looked image answer → (e : answer.number ≡ 0)
+pub loaded_taken : {image : List ℕ} {lent after : Contents} {answer loaded : Seen} {count : ℕ} → Looked image answer → (e : answer.number ≡ 0)
     → (contents_room 2 vertex_limit edge_limit lent).met → count ≡ length_count answer.version answer.vertices
     → Loaded image (record { table = fronts answer.vertices answer.edges lent.table; lengths = take count lent.lengths }) after loaded
     → TakenIn image lent
@@ -74,7 +74,7 @@ pub record TakenLengths (image after : List ℕ) (count : ℕ) : Type 0 where
 front_within : (front rest : List ℕ) {whole : List ℕ} → whole ≡ front ++ rest → length front ≤ length whole
 front_within front rest e = omega (arith, ap length e, length-append front rest)
 
-module _ {image : List ℕ} {lent after : Contents} {answer : Sizes} (taken : TakenIn image lent after answer) where
+module _ {image : List ℕ} {lent after : Contents} {answer : Seen} (taken : TakenIn image lent after answer) where
   -- n and m are within the limits, on a refusal too
   pub taken_few : (answer.vertices ≤ vertex_limit) × (answer.edges ≤ edge_limit)
   taken_few =

@@ -1,10 +1,8 @@
 -- Two results that the contract of `turn` allows coincide, for every lawful way: how many candidates there are, how many were folded, and the new counts.
 -- Of `next` the number of a dropped vertex is open: any that is above n says that no edge of it stays. Assumes nothing.
-use Prim.Native.Nat.{ℕ}
-use mathlib.Core.Path.{◌≡◌, sym, ap, ◌∙◌}
-use mathlib.Core.List.{List, map, Memᴰ}
-use lib.ListN.{length, take, length-map}
-use lib.Seq.{ext_get_or}
+use Rattle.std.proofs.Common.{ℕ, ◌≡◌, sym, ap, ◌∙◌, List, map, length, take, ext_get_or}
+use mathlib.Core.List.{Memᴰ}
+use lib.ListN.{length-map}
 use Rattle.table.specs.Table.{Table, edges}
 use Rattle.rule.specs.Lists.{Graph, Listing}
 use Rattle.rule.specs.Fold.{Item, Entrance, Stays, Applied}

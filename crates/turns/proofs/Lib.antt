@@ -1,4 +1,2 @@
--- The laws of `turns`, in the order in which one reads them. Assumes nothing.
-pub mod FillLaws
-pub mod StartLaws
+-- That the contract of `turns` determines the result. Assumes nothing.
 pub mod Determined

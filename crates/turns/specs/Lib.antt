@@ -1,3 +1,2 @@
--- The definitions of `turns`, in the order in which one reads them. Assumes nothing.
+-- The definitions of `turns`. Assumes nothing.
 pub mod Turns
-pub mod Steps

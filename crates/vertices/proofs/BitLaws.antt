@@ -1,16 +1,11 @@
 -- Laws of a word's bits: place by place, those of 2 ^ j, those of two words by `|`, and how many are 1. Assumes nothing.
-use Prim.Native.Nat.{ℕ, zero, suc, ◌*◌, ◌/◌, ◌%◌, ◌^◌, ◌≤◌, ◌<◌, max}
-use mathlib.Core.Path.{◌≡◌, refl, sym, ap, ◌∙◌}
-use mathlib.Core.Logic.{◌↔◌, ◌⊎◌, inl, inr, ⊎_elim}
+use Rattle.std.proofs.Common.{ℕ, zero, suc, ◌*◌, ◌/◌, ◌%◌, ◌^◌, ◌≤◌, ◌<◌, max, ◌≡◌, refl, sym, ap, ◌∙◌}
+use Rattle.std.proofs.Common.{◌↔◌, ◌⊎◌, inl, inr, ⊎_elim, [], ◌∷◌, lt_of_lt_of_le, add-one, one-add, arith, pow_mono, shr-shr, shr_lt, bit_or}
 use mathlib.Core.List.Memᴰ
-use mathlib.Core.List.{[], ◌∷◌}
-use native.Mathlib.Nat.{zero-div, div-eq_of_lt, lt_of_lt_of_le}
-use native.Mathlib.Numerals.{add-one, one-add}
-use native.Mathlib.Omega.{arith}
+use native.Mathlib.Nat.{zero-div, div-eq_of_lt}
 use native.Mathlib.Decide.{ℕ_discrete, dec_lt}
 use lib.Arith.{lt-one}
-use lib.Pow.{pow_mono, shr-shr, shr_lt}
-use lib.Bits.{bit_or, or_shr, or_step, shifted_half, shifted_even}
+use lib.Bits.{or_shr, or_step, shifted_half, shifted_even}
 use lib.Count.{ones, ones_step}
 use Rattle.bubble.specs.Distinct.{Distinct}
 use Rattle.vertices.specs.Vertices.{bit_at, Numbers}

@@ -1,12 +1,6 @@
 -- A set has only one way to be kept: words with the same members are the same words. Assumes nothing.
-use Prim.Native.Nat.{ℕ, zero, suc, ◌+◌, ◌*◌, ◌/◌, ◌%◌, ◌^◌, ◌<◌}
-use mathlib.Core.Path.{◌≡◌, sym, ◌∙◌}
-use mathlib.Core.Logic.{◌↔◌}
-use mathlib.Core.List.{List}
-use native.Mathlib.Omega.{arith}
+use Rattle.std.proofs.Common.{ℕ, zero, suc, ◌+◌, ◌*◌, ◌/◌, ◌%◌, ◌^◌, ◌<◌, ◌≡◌, sym, ◌∙◌, ◌↔◌, List, arith, length, get_or, ext_get_or}
 use native.Mathlib.Decide.{ℕ_discrete}
-use lib.ListN.{length, get_or}
-use lib.Seq.{ext_get_or}
 use Rattle.vertices.specs.Vertices.{bit_at, Member, set_words, Words, Added}
 use Rattle.vertices.proofs.BitLaws.{bit_first, bit_next, bit_below}
 

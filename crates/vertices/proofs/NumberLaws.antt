@@ -1,10 +1,7 @@
 -- How many numbers a statement holds of: such counts from lists of different numbers, the count of two sets joined, and that there is only one count. Assumes nothing.
-use Prim.Native.Nat.{ℕ, ◌+◌, ◌≤◌}
-use mathlib.Core.Path.{◌≡◌, sym}
-use mathlib.Core.Logic.{◌↔◌, ◌⊎◌, inl, inr, ⊎_elim}
-use mathlib.Core.List.{List, ◌++◌, map, Memᴰ}
-use native.Mathlib.Omega.{arith}
-use lib.ListN.{length, length-append, length-map}
+use Rattle.std.proofs.Common.{ℕ, ◌+◌, ◌≤◌, ◌≡◌, sym, ◌↔◌, ◌⊎◌, inl, inr, ⊎_elim, List, ◌++◌, map, arith, length, length-append}
+use mathlib.Core.List.{Memᴰ}
+use lib.ListN.{length-map}
 use Rattle.table.specs.Table.{In}
 use Rattle.bubble.specs.Distinct.{Distinct}
 use Rattle.bubble.proofs.Pigeonhole.{distinct_within, distinct_append, distinct_map, getD_in, place_of, distinct_apart, apart_distinct}

@@ -1,17 +1,13 @@
 -- Laws of the set: the empty one, one with a vertex added, and the number of its members. Assumes nothing.
-use Prim.Native.Nat.{ℕ, zero, suc, ◌+◌, ◌-◌, ◌*◌, ◌/◌, ◌%◌, ◌^◌, ◌≤◌, ◌<◌}
-use mathlib.Core.Path.{◌≡◌, refl, sym, ap, ◌∙◌}
-use mathlib.Core.Logic.{◌↔◌, ◌⊎◌, inl, inr, ⊎_elim}
+use Rattle.std.proofs.Common.{ℕ, zero, suc, ◌+◌, ◌-◌, ◌*◌, ◌/◌, ◌%◌, ◌^◌, ◌≤◌, ◌<◌, ◌≡◌, refl, sym, ap, ◌∙◌, ◌↔◌, ◌⊎◌}
+use Rattle.std.proofs.Common.{inl, inr, ⊎_elim, List, [], ◌∷◌, arith, shl_exact, bit_or, All, sum_by, length, get_or, set, replicate, length-set, get_or-set_same, get_or-set_other}
 use mathlib.Core.List.Memᴰ
-use mathlib.Core.List.{List, [], ◌∷◌}
-use native.Mathlib.Omega.{arith}
 use native.Mathlib.Decide.{ℕ_discrete, dec_lt}
-use native.Mathlib.Numerals.{add-one}
-use lib.Pow.{shl_exact}
-use lib.Bits.{bit_or, or_lt}
+use lib.Bits.{or_lt}
 use lib.Count.{ones, ones-le}
-use lib.ListN.{length, get_or, set, take, replicate, length-replicate, length-set}
-use lib.Seq.{take_all, get_or-set_same, get_or-set_other}
+use Rattle.std.proofs.lemmas.List.Elements.{All-from_get_or}
+use Rattle.std.proofs.lemmas.List.Sums.{sum_by-le, sum_by-cons}
+use lib.ListN.{length-replicate}
 use Rattle.table.specs.Limits.{vertex_limit}
 use Rattle.table.specs.Table.{Below}
 use Rattle.bubble.specs.Distinct.{Distinct}
@@ -90,18 +86,16 @@ module _ {words : List ℕ} (v : ℕ) (sound : Words words) (vertex : v < vertex
 
 -- ---- the number of members
 
--- the sum over one word more
-sum_suc : (words : List ℕ) (i : ℕ) → i < length words → ones_of (take (suc i) words) ≡ ones_of (take i words) + ones (get_or words i 0)
-sum_suc [] i h = absurd (omega arith)
-sum_suc (w ∷ words) zero h = omega arith
-sum_suc (w ∷ words) (suc i) h = omega (arith, sum_suc words i (omega arith))
+-- each word has at most 64 ones, so their sum is small
+pub ones_fit : {words : List ℕ} → Words words → sum_by ones words < 4294967296
+ones_fit {words} sound =
+    let each : All (λ w. ones w ≤ 64) words = All-from_get_or (λ w. ones w ≤ 64) words 0 (λ i h. ones-le 64 (get_or words i 0) (sound.each i h)) in
+    omega (arith, sum_by-le ones 64 words each, sound.many)
 
-pub sum_more : {words : List ℕ} → Words words → (i : ℕ) → i < set_words → ones_of (take (i + 1) words) ≡ ones_of (take i words) + ones (get_or words i 0)
-sum_more {words} sound i h = rw (add-one i) (sum_suc words i (omega (arith, sound.many)))
-
--- a word has at most 64 ones
-pub word_most : {words : List ℕ} → Words words → (i : ℕ) → i < set_words → ones (get_or words i 0) ≤ 64
-word_most {words} sound i h = ones-le 64 (get_or words i 0) (sound.each i (omega (arith, sound.many)))
+-- the library's sum is that of the words one by one
+sum_is : (words : List ℕ) → sum_by ones words ≡ ones_of words
+sum_is [] = refl
+sum_is (w ∷ words) = sum_by-cons ones w words ∙ ap (λ (x : ℕ). ones w + x) (sum_is words)
 
 -- the set of the words but the first, 64 further on
 member_next : (w : ℕ) (words : List ℕ) (u : ℕ) → bit_at (get_or (w ∷ words) ((64 + u) / 64) 0) ((64 + u) % 64) ≡ bit_at (get_or words (u / 64) 0) (u % 64)
@@ -137,7 +131,7 @@ members_numbered (w ∷ words) h =
     (λ u q p. omega (arith, bit_below 64 w (64 + u) first p)) (λ v. by_word w words v first)
 
 -- the sum over all words is the size
-pub summed : {words : List ℕ} → Words words → (r : ℕ) → r ≡ ones_of (take set_words words) → Size words r
-summed {words} sound r q =
-    let all : r ≡ ones_of words = q ∙ ap ones_of (take_all set_words words (omega (arith, sound.many))) in
+pub summed : {words : List ℕ} → Words words → {r : ℕ} → r ≡ sum_by ones words → Size words r
+summed {words} sound q =
+    let all = q ∙ sum_is words in
     record { sum = all; number = rw all (members_numbered words sound.each) }

@@ -16,7 +16,7 @@ pub fn put(words: &mut [u64; SET_WORDS], v: u32)
     ensures { Added words.old words.new v }
 {
     let i = (v / 64) as usize;
-    words[i] = words[i] | (1u64 << (v % 64));
+    words[i] |= 1u64 << (v % 64);
 }
 
 // The number of vertices in the set: the sum of each word's count of ones.
@@ -24,11 +24,5 @@ pub fn size(words: &[u64; SET_WORDS]) -> u32
     requires { Words words.now }
     ensures { Size words.now result }
 {
-    let mut sum: u32 = 0;
-    let mut i = 0;
-    while i < SET_WORDS {
-        sum += u64::count_ones(words[i]);
-        i += 1;
-    }
-    sum
+    words.iter().map(|word| word.count_ones()).sum()
 }

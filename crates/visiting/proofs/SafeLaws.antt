@@ -1,6 +1,5 @@
 -- Laws of safe vertices and of cycles, in any graph: no cycle goes through a safe vertex. Assumes nothing.
-use Prim.Native.Nat.{ℕ}
-use mathlib.Core.Logic.{◌⊎◌, ⊎_elim}
+use Rattle.std.proofs.Common.{ℕ, ◌⊎◌, ⊎_elim}
 use Rattle.bubble.specs.Superbubble.{Reaches, Reaches.none, Reaches.then, Walk}
 use Rattle.bubble.proofs.Walks.{reaches_walk, walk_first}
 use Rattle.bubble.proofs.Fewer.{walk_fewer}

@@ -5,6 +5,7 @@ use Rattle.std.specs.Prelude.{ℕ, ◌≤◌, ◌<◌, ◌≡◌, ◌⊎◌, Boo
 use Rattle.table.specs.Table.{vertices, Edge, WellFormed}
 use Rattle.bubble.specs.Superbubble.{Reaches, Walk}
 use Rattle.bubble.specs.Cycle.{Anywhere}
+use Rattle.visiting.specs.declared.Turn.{Turn}
 
 -- the edges that are followed: those between unvisited vertices, but for the edge from>to
 pub record Followed (starts targets colours : List ℕ) (from to u v : ℕ) : Type 0 where
@@ -13,12 +14,11 @@ pub record Followed (starts targets colours : List ℕ) (from to u v : ℕ) : Ty
   pub enters : get_or colours v 0 ≡ 0
   pub other : u ≡ from → v ≡ to → ⊥
 
--- visits can be made: the table is well-formed, each vertex has room for its colour, on the path and for a place in its row, and none is on the path
-pub record Prepared (starts targets colours path places : List ℕ) : Type 0 where
+-- visits can be made: the table is well-formed, each vertex has room for its colour and for its turn of the path, and none is on the path
+pub record Prepared (starts targets colours : List ℕ) (path : List Turn) : Type 0 where
   pub well_formed : WellFormed starts targets
   pub colours_room : vertices starts ≤ length colours
   pub path_room : vertices starts ≤ length path
-  pub places_room : vertices starts ≤ length places
   pub none_on_path : (v : ℕ) → v < vertices starts → (get_or colours v 0 ≡ 0) ⊎ (2 ≤ get_or colours v 0)
 
 -- r is the vertex that is passed over in the row of v: `to` in the row of `from`, and none in any other
@@ -39,13 +39,13 @@ pub data Safe (E : ℕ → ℕ → Type 0) : ℕ → Type 0 where
   safe : {v : ℕ} → ((w : ℕ) → E v w → Safe E w) → Safe E v
 
 -- a vertex can be visited
-pub record Visitable (starts targets colours path places : List ℕ) (root : ℕ) : Type 0 where
-  pub prepared : Prepared starts targets colours path places
+pub record Visitable (starts targets colours : List ℕ) (path : List Turn) (root : ℕ) : Type 0 where
+  pub prepared : Prepared starts targets colours path
   pub vertex : root < vertices starts
 
 -- the root is done, and what became done with it is safe; what was done stays so, and none is on the path
-pub record RootDone (starts targets colours : List ℕ) (from to root : ℕ) (colours' path' places' : List ℕ) : Type 0 where
-  pub prepared : Prepared starts targets colours' path' places'
+pub record RootDone (starts targets colours : List ℕ) (from to root : ℕ) (colours' : List ℕ) (path' : List Turn) : Type 0 where
+  pub prepared : Prepared starts targets colours' path'
   pub stays : (v : ℕ) → 2 ≤ get_or colours v 0 → 2 ≤ get_or colours' v 0
   pub done : 2 ≤ get_or colours' root 0
   pub done_safe : (v : ℕ) → v < vertices starts → get_or colours v 0 ≡ 0 → 2 ≤ get_or colours' v 0 → Safe (Followed starts targets colours from to) v
@@ -57,6 +57,6 @@ pub record LeadsToCycle (E : ℕ → ℕ → Type 0) (root : ℕ) : Type 0 where
   pub back : Walk E Anywhere vertex vertex
 
 -- the answer of a visit: true where the root leads to a cycle, false where it is done
-abbrev pub VisitAnswer : Bool → List ℕ → List ℕ → List ℕ → ℕ → ℕ → ℕ → List ℕ → List ℕ → List ℕ → Type 0
-VisitAnswer true starts targets colours from to root colours' path' places' = LeadsToCycle (Followed starts targets colours from to) root
-VisitAnswer false starts targets colours from to root colours' path' places' = RootDone starts targets colours from to root colours' path' places'
+abbrev pub VisitAnswer : Bool → List ℕ → List ℕ → List ℕ → ℕ → ℕ → ℕ → List ℕ → List Turn → Type 0
+VisitAnswer true starts targets colours from to root colours' path' = LeadsToCycle (Followed starts targets colours from to) root
+VisitAnswer false starts targets colours from to root colours' path' = RootDone starts targets colours from to root colours' path'

@@ -1,87 +1,93 @@
-// A visit of a vertex and, depth first, of what it leads to, each vertex's successors taken from its row alone. The vertices on the path stand in an array, so that
-// the stack does not grow with it.
+// A visit of a vertex and, depth first, of what it leads to, each vertex's successors taken from its row alone. The path stands in an array, so that the stack does not
+// grow with it.
 #![tactic(auto)]
 
-ghost use Rattle.std.specs.Prelude.{◌≤◌, length};
+ghost use Rattle.std.specs.Prelude.{ℕ, ◌≤◌, ◌<◌, length, MatchOption};
+ghost use Rattle.std.specs.Option.{unwrap_or};
 ghost use Rattle.table.specs.Table.{Below};
 ghost use Rattle.visiting.specs.Visits.{PassedOver, NextOpen, Visitable, VisitAnswer};
 
-// The vertex that is passed over in the row of v: `to` in the row of `from`, and none in any other.
-fn passed_over(v: usize, from: usize, to: u32, none: u32) -> u32
-    ensures { PassedOver v from to none result }
-{
-    if v == from {
-        return to;
-    }
-    none
+use table::Rows;
+
+// A turn of the path: a vertex, and the place in its row that leads to the next one.
+#[derive(Clone, Copy)]
+pub struct Turn {
+    pub vertex: u16,
+    pub place: u16,
 }
 
-// The first place of a row, from `place` on, with a vertex that is neither done nor passed over; the row's length where there is none.
-fn next_open(row: &[u32], colours: &[u8], place: usize, over: u32) -> usize
+// The vertex that is passed over in the row of v: `to` in the row of `from`, and none in any other.
+fn passed_over(v: usize, from: usize, to: u32) -> Option<u32>
+    ensures { (none : ℕ) → PassedOver v from to none (unwrap_or result none) }
+{
+    if v == from { Some(to) } else { None }
+}
+
+// The first place of a row, from `place` on, with a vertex that is neither done nor passed over.
+fn next_open(row: &[u32], colours: &[u8], place: usize, over: Option<u32>) -> Option<usize>
     requires below { Below (length colours.now) row.now }
     requires place_in_bounds { place ≤ length row.now }
-    ensures { NextOpen row.now colours.now place over result }
+    ensures { (none : ℕ) → length colours.now ≤ none → MatchOption result
+        (NextOpen row.now colours.now place (unwrap_or over none) (length row.now))
+        (λ k. (k < length row.now) × NextOpen row.now colours.now place (unwrap_or over none) k) }
 {
-    let mut k = place;
-    while k < row.len() {
+    for k in place..row.len() {
         let u = row[k];
-        if colours[u as usize] < 2 {
-            if u != over {
-                return k;
-            }
+        if colours[u as usize] < 2 && over != Some(u) {
+            return Some(k);
         }
-        k += 1;
     }
-    k
+    None
 }
 
 // Visits a vertex, and depth first what it leads to; one that is done is left alone. Answers whether a cycle was met: one that closes on a vertex of the path.
-// The path holds the vertices whose rows are not passed yet, each with an edge to the next, and `places` for each of them the place in its row that leads to the next.
+// The path leads from the root to v: it holds a turn for each vertex before v, in whose row the walk goes on once it comes back.
 pub fn visit(
-    starts: &[u32],
-    targets: &[u32],
+    rows: &Rows,
     colours: &mut [u8],
-    path: &mut [u16],
-    places: &mut [u16],
+    path: &mut [Turn],
     root: usize,
     from: usize,
     to: u32,
 ) -> bool
-    requires { Visitable starts.now targets.now colours.old path.old places.old root }
-    ensures { VisitAnswer result starts.now targets.now colours.old from to root
-        colours.new path.new places.new }
+    requires { Visitable rows.now.starts rows.now.targets colours.old path.old root }
+    ensures { VisitAnswer result rows.now.starts rows.now.targets colours.old from to root colours.new path.new }
 {
     if colours[root] != 0 {
         return false;
     }
-    let none = (starts.len() - 1) as u32;
     colours[root] = 1;
-    path[0] = root as u16;
     let mut depth = 0;
     let mut v = root;
     let mut place = 0;
+    // a loop: the walk goes down the path and back up it, and a recursion would take stack for each vertex
     loop {
-        let row = table::row(starts, targets, v);
-        place = next_open(row, colours, place, passed_over(v, from, to, none));
-        if place < row.len() {
-            let next = row[place] as usize;
-            if colours[next] == 1 {
-                return true;
+        let row = rows.row(v);
+        match next_open(row, colours, place, passed_over(v, from, to)) {
+            Some(open) => {
+                let next = row[open] as usize;
+                if colours[next] == 1 {
+                    return true;
+                }
+                colours[next] = 1;
+                path[depth] = Turn {
+                    vertex: v as u16,
+                    place: open as u16,
+                };
+                depth += 1;
+                v = next;
+                place = 0;
             }
-            colours[next] = 1;
-            places[depth] = place as u16;
-            depth += 1;
-            path[depth] = next as u16;
-            v = next;
-            place = 0;
-        } else {
-            colours[v] = 2;
-            if depth == 0 {
-                return false;
+            None => {
+                colours[v] = 2;
+                if depth == 0 {
+                    return false;
+                }
+                depth -= 1;
+                let turn = path[depth];
+                v = usize::from(turn.vertex);
+                place = usize::from(turn.place);
             }
-            depth -= 1;
-            v = path[depth] as usize;
-            place = places[depth] as usize;
         }
     }
 }

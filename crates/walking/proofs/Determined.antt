@@ -1,11 +1,6 @@
 -- Two walks over one row coincide: what is pending, how many vertices wait, and how far the queue reaches. Assumes nothing.
-use Prim.Native.Nat.{ℕ, ◌≤◌, ◌<◌}
-use mathlib.Core.Path.{◌≡◌, sym, ◌∙◌, ap}
-use mathlib.Core.List.{List}
-use native.Mathlib.Omega.{arith}
+use Rattle.std.proofs.Common.{ℕ, ◌≤◌, ◌<◌, ◌≡◌, sym, ◌∙◌, ap, List, arith, get_or, ext_get_or}
 use native.Mathlib.Decide.{dec_lt}
-use lib.ListN.{get_or}
-use lib.Seq.{ext_get_or}
 use Rattle.walking.specs.Walking.{waiters, Walked}
 use Rattle.walking.proofs.ShownLaws.{shown_most}
 

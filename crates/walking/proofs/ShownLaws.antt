@@ -1,9 +1,6 @@
 -- A list whose entries all stand in another is no longer than it, where they are different. Assumes nothing.
-use Prim.Native.Nat.{ℕ, ◌≤◌, ◌<◌}
-use mathlib.Core.Path.{◌≡◌, sym, ◌∙◌, ap}
-use mathlib.Core.List.{List}
+use Rattle.std.proofs.Common.{ℕ, ◌≤◌, ◌<◌, ◌≡◌, sym, ◌∙◌, ap, List, get_or}
 use native.Mathlib.Decide.{dec_lt}
-use lib.ListN.{get_or}
 use Rattle.bubble.proofs.Pigeonhole.{places_below}
 
 module _ (xs ys : List ℕ) (k l : ℕ) (apart : (i j : ℕ) → i < k → j < k → get_or xs i 0 ≡ get_or xs j 0 → i ≡ j)

@@ -1,10 +1,6 @@
 -- Laws of which vertex waits: some but not all of its parents are visited. Assumes nothing.
-use Prim.Native.Nat.{ℕ, ◌≤◌, ◌<◌}
-use mathlib.Core.Path.{◌≡◌}
-use mathlib.Core.Logic.{◌≢◌}
-use native.Mathlib.Omega.{arith}
+use Rattle.std.proofs.Common.{ℕ, ◌≤◌, ◌<◌, ◌≡◌, ◌≢◌, arith, eq-eqb, ne_eqb, lt-ltb, le-ltb}
 use native.Mathlib.Decide.{ℕ_discrete, dec_lt}
-use borrow.Author.Tests.{eq-eqb, ne_eqb, lt-ltb, le-ltb}
 use Rattle.walking.specs.Walking.{ready, waits}
 
 pub ready_yes : (pending : ℕ) → pending ≡ 1 → ready pending ≡ 1

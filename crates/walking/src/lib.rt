@@ -13,26 +13,19 @@ pub struct Front {
 }
 
 // 1 for a vertex whose last parent is visited next, else 0.
+#[tactic(auto, unfolding(crate::specs::Walking::ready))]
 fn ready(pending: u32) -> usize
     ensures { result ≡ walking_ready pending }
 {
-    if pending == 1 {
-        return 1;
-    }
-    0
+    usize::from(pending == 1)
 }
 
 // 1 for a vertex that waits, else 0.
+#[tactic(auto, unfolding(crate::specs::Walking::waits))]
 fn waits(pending: u32, parents: u32) -> usize
     ensures { result ≡ walking_waits pending parents }
 {
-    if pending == 0 {
-        return 0;
-    }
-    if pending < parents {
-        return 1;
-    }
-    0
+    usize::from(0 < pending && pending < parents)
 }
 
 // Passes one edge, to u. The place behind the queue takes u, and the queue grows over it if no parent of u is pending.
@@ -66,10 +59,8 @@ pub fn walk(
         (length row.now) pending.new order.new result.tail result.waiting }
 {
     let mut at = front;
-    let mut k = 0;
-    while k < row.len() {
-        at = pass_edge(parents, pending, order, at, row[k]);
-        k += 1;
+    for u in row {
+        at = pass_edge(parents, pending, order, at, *u);
     }
     at
 }

@@ -3,7 +3,6 @@
 
 ghost use Rattle.std.specs.Prelude.{◌+◌, ◌-◌, ◌*◌, ◌≤◌, min, ◌≡◌};
 ghost use Rattle.table.specs.Verdict.{Says as TableSays};
-ghost use Rattle.io.specs.Counts.{IsPrefixLen};
 ghost use Rattle.words.specs.Decimal.{Says};
 
 use std::env::Env;
@@ -11,10 +10,9 @@ use std::env::Env;
 // The room that any word fits: the longest that the system hands to a program for x86-64, and one byte more.
 pub const LONGEST: usize = 131_072;
 
-// What a word says where a number is due.
-#[derive(Clone, Copy)]
-pub enum Numeral {
-    Is(u32),
+// Why a word says no number of 32 bits.
+#[derive(Clone, Copy, Debug, PartialEq, Eq)]
+pub enum NumeralError {
     TooLarge,
     Wrong,
 }
@@ -25,71 +23,47 @@ fn appended(value: u64, digit: u8) -> u64
     requires le_digit { (48 ≤ digit) × (digit ≤ 57) }
     ensures { result ≡ min 4294967296 (10 * value + (digit - 48)) }
 {
-    let more = 10 * value + (digit - 48) as u64;
-    if more > 4_294_967_296 {
-        return 4_294_967_296;
-    }
-    more
+    (10 * value + u64::from(digit - b'0')).min(4_294_967_296)
 }
 
 // What a word says, of any length.
-pub fn parse(word: &[u8]) -> Numeral
+pub fn parse(word: &[u8]) -> Result<u32, NumeralError>
     ensures { Says word.now result }
 {
-    if word.len() == 0 {
-        return Numeral::Wrong;
+    if word.is_empty() {
+        return Err(NumeralError::Wrong);
     }
-    let mut value: u64 = 0;
-    let mut k = 0;
-    while k < word.len() {
-        let digit = word[k];
-        if digit < b'0' {
-            return Numeral::Wrong;
+    let mut value = 0;
+    for digit in word {
+        if !matches!(*digit, b'0'..=b'9') {
+            return Err(NumeralError::Wrong);
         }
-        if digit > b'9' {
-            return Numeral::Wrong;
-        }
-        value = appended(value, digit);
-        k += 1;
+        value = appended(value, *digit);
     }
-    if value > 4_294_967_295 {
-        return Numeral::TooLarge;
-    }
-    Numeral::Is(value as u32)
+    u32::try_from(value).map_err(|_| NumeralError::TooLarge)
 }
 
 // Whether a word is a text, byte for byte.
 pub fn same(word: &[u8], text: &[u8]) -> bool
     ensures { TableSays result (word.now ≡ text.now) }
 {
-    if word.len() != text.len() {
-        return false;
-    }
-    let mut k = 0;
-    while k < word.len() {
-        if word[k] != text[k] {
-            return false;
-        }
-        k += 1;
-    }
-    true
+    word == text
 }
 
-// Takes word i into the room, and answers its length; 0 where there is none, or where it is longer.
-fn take(env: &impl Env, i: usize, room: &mut [u8]) -> usize
-    ensures { IsPrefixLen result room.new }
-{
-    env.arg(i, room).unwrap_or(0)
+// Takes word i into the room; nothing where there is none, or where it is longer.
+fn take<'a>(env: &impl Env, i: usize, room: &'a mut [u8]) -> &'a [u8] {
+    match env.arg(i, room) {
+        Ok(count) => &room[..count],
+        Err(_) => &[],
+    }
 }
 
 // What word i says, the program's own name being word 0. It is taken into the room that is lent; a word that is longer says nothing.
-pub fn number(env: &impl Env, i: usize, room: &mut [u8]) -> Numeral {
-    let count = take(env, i, room);
-    parse(&room[..count])
+pub fn number(env: &impl Env, i: usize, room: &mut [u8]) -> Result<u32, NumeralError> {
+    parse(take(env, i, room))
 }
 
 // Whether word i is a text. It is taken into the room that is lent; a word that is longer is none.
 pub fn is(env: &impl Env, i: usize, text: &[u8], room: &mut [u8]) -> bool {
-    let count = take(env, i, room);
-    same(&room[..count], text)
+    same(take(env, i, room), text)
 }

@@ -5,7 +5,7 @@ use mathlib.Core.List.{List, [], ◌∷◌, ◌++◌}
 use native.Mathlib.Decide.{ℕ_discrete}
 use Rattle.table.proofs.VerdictLaws.{verdict_unique}
 use Rattle.layout.specs.Image.{Contents}
-use Rattle.writing.specs.declared.Extent.{Extent}
+use Rattle.writing.specs.Writing.{Extent}
 use Rattle.writing.specs.Writing.{image_room, contents_demands, Written}
 
 -- two writings of one version and contents into slices that held the same

@@ -1,21 +1,22 @@
 -- Laws of writing: header, starts, targets, counts and lengths written one after the other are the image of the contents. Assumes nothing.
 use Prim.Native.Nat.{ℕ, ◌+◌, ◌*◌, ◌≤◌}
-use mathlib.Core.Path.{◌≡◌, refl, sym, ap, ◌∙◌}
-use mathlib.Core.Logic.{inl, inr}
+use mathlib.Core.Path.{◌≡◌, refl, ap, ◌∙◌}
+use mathlib.Core.Logic.{inr}
 use mathlib.Core.List.{List, [], ◌∷◌, ◌++◌}
 use native.Mathlib.Omega.{arith}
 use lib.ListN.{length, drop, length-append}
 use Rattle.table.specs.Verdict.{Verdict, AllMet}
-use Rattle.table.specs.Table.{Below, size, SoundTable}
+use Rattle.table.specs.Table.{Below, Rows, size, SoundTable}
+use Rattle.table.specs.Numbers.{table_demands, sum_fits_demand}
 use Rattle.table.proofs.VerdictLaws.{accepted, goes_on, stops, first_met, verdict_unique}
-use Rattle.table.proofs.Accepted.{met_counted, counted_meets}
+use Rattle.table.proofs.Accepted.{table_met, met_counted, counted_meets}
 use Rattle.layout.specs.Bytes.{spelled, over}
-use Rattle.layout.specs.Lengths.{Known, length_count}
+use Rattle.layout.specs.Lengths.{Known, length_count, no_zero}
 use Rattle.layout.specs.Image.{Contents, SoundContents, header_of, image_length, image_of}
 use Rattle.layout.proofs.ByteLaws.{spelled_length, over_over}
 use Rattle.layout.proofs.ImageLaws.{starts_end, targets_end, counts_end, image_length_lem}
-use Rattle.writing.specs.declared.Extent.{Extent}
-use Rattle.writing.specs.Writing.{image_room, contents_demands, Written}
+use Rattle.writing.specs.Writing.{Extent}
+use Rattle.writing.specs.Writing.{one_each, image_room, contents_demands, Written}
 
 module _ (version : ℕ) (contents : Contents) where
   -- 0 of `contents_demands`: 1 to 7 and 20 are met
@@ -45,6 +46,21 @@ module _ (version : ℕ) (contents : Contents) where
   -- and as many lengths as the version has
   pub met_lengths : AllMet (contents_demands version contents) → length contents.lengths ≡ length_count version (size contents.table.rows)
   met_lengths met = met.1.1.1.1.1.0.1
+
+  -- a table that is refused is the first of the reasons,
+  pub refused_by_rows : {rows : Rows} → rows ≡ contents.table.rows → (number : ℕ) → (number ≡ 0 → ⊥) → Verdict (table_demands rows) number
+      → Verdict (contents_demands version contents) number
+  refused_by_rows same number refusal v =
+      stops (table_demands contents.table.rows) (one_each version contents ∷ sum_fits_demand contents.table ∷ no_zero contents.lengths ∷ []) number refusal
+      (rw same at v)
+
+  -- and after one that is not, 6, 7 and 20 decide
+  pub after_rows : {rows : Rows} → rows ≡ contents.table.rows → (number : ℕ) → Verdict (table_demands rows) 0
+      → Verdict (one_each version contents ∷ sum_fits_demand contents.table ∷ no_zero contents.lengths ∷ []) number
+      → Verdict (contents_demands version contents) number
+  after_rows same number v =
+      goes_on (table_demands contents.table.rows) (one_each version contents ∷ sum_fits_demand contents.table ∷ no_zero contents.lengths ∷ []) number
+      (table_met contents.table.rows (rw same at v))
 
   -- sound contents meet them
   sound_meets : SoundContents version contents → AllMet (contents_demands version contents)
@@ -107,26 +123,6 @@ image_whole version contents image {headed} {started} {targeted} {counted} {whol
     fourth ∙ ap (λ (k : ℕ). image_of version contents ++ drop k image) all
 
 module _ {version : ℕ} {contents : Contents} {image : List ℕ} {answer : Extent} where
-  -- contents that are refused leave the slice as it was
-  pub write_refused_by_contents : (number : ℕ) → (number ≡ 0 → ⊥) → Verdict (contents_demands version contents) number
-      → (answer.number ≡ number) × (answer.length ≡ 0) → Written version contents image image answer
-  write_refused_by_contents number refusal v fields =
-      record {
-        verdict = rw fields.0 (stops (contents_demands version contents) (image_room version contents.table.rows image ∷ []) number refusal v);
-        taken = λ e. absurd (refusal (sym fields.0 ∙ e));
-        refused = λ _. (fields.1, refl);
-      }
-
-  -- a slice without room is left as it was
-  pub write_refused_by_room : Verdict (contents_demands version contents) 0 → ((image_room version contents.table.rows image).met → ⊥)
-      → (answer.number ≡ 8) × (answer.length ≡ 0) → Written version contents image image answer
-  write_refused_by_room v no_room fields =
-      record {
-        verdict = rw fields.0 (by_room version contents image 8 (contents_met version contents v) (inl (no_room, refl)));
-        taken = λ e. absurd (let no : ⊥ = omega (arith, fields.0) in no);
-        refused = λ _. (fields.1, refl);
-      }
-
   -- a slice with room takes the image at its front
   pub write_taken : {image' : List ℕ} → answer.number ≡ 0 → Verdict (contents_demands version contents) 0 → (image_room version contents.table.rows image).met
       → answer.length ≡ image_length version (size contents.table.rows) (length contents.table.rows.targets)

@@ -1,11 +1,22 @@
 -- What writing an image states: the number, the length, and the slice lent, on a refusal too. Assumes nothing.
-use Rattle.std.specs.Prelude.{ℕ, ◌≤◌, ◌≡◌, List, [], ◌∷◌, ◌++◌, length, drop}
+use Rattle.std.specs.Prelude.{ℕ, ◌≤◌, ◌≡◌, List, [], ◌∷◌, ◌++◌, length, drop, Result, Ok, Err}
+use Rattle.table.specs.declared.refusal.Refusal.{Refusal}
+use Rattle.table.specs.Refusals.{number}
 use Rattle.table.specs.Verdict.{Demand, Verdict}
 use Rattle.table.specs.Table.{Rows, size}
 use Rattle.table.specs.Numbers.{table_demands, sum_fits_demand}
 use Rattle.layout.specs.Lengths.{length_count, no_zero}
 use Rattle.layout.specs.Image.{Contents, image_length, image_of}
-use Rattle.writing.specs.declared.Extent.{Extent}
+
+-- what writing an image answers, in the words of docs/RULES.md: the number, and the length
+pub record Extent : Type 0 where
+  pub number : ℕ
+  pub length : ℕ
+
+-- the length on success, and else the number of the refusal
+abbrev pub extent_of : Result ℕ Refusal → Extent
+extent_of (Ok long) = record { number = 0; length = long }
+extent_of (Err refusal) = record { number = number refusal; length = 0 }
 
 -- 6: the counts slice isn't n long, or the lengths slice isn't as long as the version asks
 abbrev pub one_each : ℕ → Contents → Demand

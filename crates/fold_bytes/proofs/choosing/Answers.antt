@@ -1,5 +1,5 @@
 -- `fold_bytes::choosing` meets its contract: version 2 is folded by the weakest vertex, any other by the sum. Assumes nothing.
-use mathlib.Core.Path.{sym}
+use Rattle.std.proofs.Common.{sym}
 use mathlib.Core.Logic.{if_pos, if_neg}
 use native.Mathlib.Decide.{ℕ_discrete}
 use Rattle.rule.specs.declared.Choosing.TheVariants.{Sum, Weakest}

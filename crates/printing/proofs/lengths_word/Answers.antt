@@ -1,9 +1,5 @@
 -- `printing::lengths_word` meets its contract: the word of version 2, or nothing. Assumes nothing.
-use Prim.Native.Nat.{ℕ}
-use mathlib.Core.Path.{sym, ap}
-use mathlib.Core.List.{List}
-use native.Mathlib.Omega.{arith}
-use lib.ListN.{length}
+use Rattle.std.proofs.Common.{ℕ, sym, ap, List, arith, length}
 use Rattle.texts.specs.Text.{following}
 use Rattle.texts.proofs.VersionLaws.{word_said, word_left_out}
 use Rattle.printing.proofs.PutLaws.{put_same, put_nothing}

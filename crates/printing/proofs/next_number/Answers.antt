@@ -1,7 +1,5 @@
 -- `printing::next_number` meets its contract: a blank, and the number behind it. Assumes nothing.
-use mathlib.Core.Path.{◌∙◌}
-use native.Mathlib.Omega.{arith}
-use lib.ListN.{length-set}
+use Rattle.std.proofs.Common.{◌∙◌, arith, length-set}
 use Rattle.printing.proofs.PutLaws.{put_then, put_byte}
 use Rattle.printing.proofs.next_number.Goals as goal
 

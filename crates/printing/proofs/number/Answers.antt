@@ -1,9 +1,5 @@
 -- `printing::number` meets its contract: the kit's digits are the shortest decimal. Assumes nothing.
-use Prim.Native.Nat.{ℕ}
-use mathlib.Core.List.{List}
-use mathlib.Core.Path.{◌≡◌, ap, ◌∙◌}
-use native.Mathlib.Omega.{arith}
-use lib.ListN.{length, take}
+use Rattle.std.proofs.Common.{ℕ, List, ◌≡◌, ap, ◌∙◌, arith, length, take}
 use Rattle.io.specs.Digits.{last_digits, IsDigitCount}
 use Rattle.texts.specs.Text.{decimal}
 use Rattle.texts.proofs.Decimal.{decimal_fewest}

@@ -1,16 +1,7 @@
--- `printing::word` meets its contract. The loop's invariant: the first k bytes stand behind the place. Assumes nothing.
-use native.Mathlib.Omega.{arith}
-use Rattle.printing.proofs.PutLaws.{put_none, put_more, put_all}
+-- `printing::word` meets its contract: the word is copied over its part of the buffer. Assumes nothing.
+use Rattle.std.proofs.Common.{arith}
+use Rattle.printing.proofs.PutLaws.{put_part}
 use Rattle.printing.proofs.word.Goals as goal
 
-pub loop-k-init : goal.loop-k-init
-loop-k-init c = (omega arith, put_none)
-
-pub loop-k-preserved : goal.loop-k-preserved
-loop-k-preserved c = let at = c.loop-k in
-    let more = c.loop-k-test.true in
-    (omega arith, put_more c.args.bytes.now at.k more (omega (arith, c.requires, at.invariant.1.as_long)) at.invariant.1)
-
 pub returns : goal.returns
-returns c = let at = c.loop-k in
-    put_all c.args.bytes.now at.k (omega (arith, at.invariant.0)) at.invariant.1
+returns c = put_part c.args.out.now c.args.at _ c.copy_from_slice.ensures.after (omega arith) (omega (arith, c.requires))

@@ -1,5 +1,5 @@
 -- `reaching::reaches` meets its contract: a vertex reaches itself, and another one by the walk with arrays that are all 0. Assumes nothing.
-use mathlib.Core.Path.{refl}
+use Rattle.std.proofs.Common.{refl}
 use Rattle.table.specs.Limits.{vertex_limit}
 use Rattle.bubble.specs.Superbubble.{Reaches.none}
 use Rattle.reaching.proofs.ReachLaws.{zeros_ready}

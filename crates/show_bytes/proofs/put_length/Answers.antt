@@ -1,10 +1,5 @@
 -- `show_bytes::put_length` meets its contract: the length, where the version has one, or nothing. Assumes nothing.
-use Prim.Native.Nat.{ℕ, ◌+◌, ◌≤◌, ◌<◌}
-use mathlib.Core.Path.{◌≡◌, sym, ap}
-use mathlib.Core.List.{List}
-use native.Mathlib.Omega.{arith}
-use borrow.Author.Rules.{rules}
-use lib.ListN.{length}
+use Rattle.std.proofs.Common.{ℕ, ◌+◌, ◌≤◌, ◌<◌, ◌≡◌, sym, ap, List, arith, rules, length}
 use Rattle.layout.specs.Lengths.{length_count}
 use Rattle.layout.proofs.LengthLaws.{lengths_each}
 use Rattle.printing.proofs.PutLaws.{put_same, put_nothing}
@@ -23,17 +18,13 @@ pub bounds-lengths-v : goal.bounds-lengths-v
 bounds-lengths-v c =
     (inside c.args.version c.args.v c.args.lengths.now c.requires.v_in_bounds (search rules))
 
-pub overflow_cast-lengths : goal.overflow_cast-lengths
-overflow_cast-lengths c =
-    omega (arith, c.type_inv.lengths c.args.v)
-
 pub next_number-requires : goal.next_number-requires
 next_number-requires c =
-    omega (arith, c.requires.v_in_bounds_2, ap length (length_put c.args.version c.args.lengths.now c.args.v (search rules)))
+    rw c.from.ensures (omega (arith, c.requires.v_in_bounds_2, ap length (length_put c.args.version c.args.lengths.now c.args.v (search rules))))
 
 pub returns-then-version-eq-VERSION_2 : goal.returns-then-version-eq-VERSION_2
 returns-then-version-eq-VERSION_2 c =
-    put_same (sym (length_put c.args.version c.args.lengths.now c.args.v (search rules))) c.next_number.ensures
+    put_same (sym (length_put c.args.version c.args.lengths.now c.args.v (search rules))) (rw c.from.ensures at c.next_number.ensures)
 
 pub returns : goal.returns
 returns c =

@@ -1,25 +1,13 @@
--- `show_bytes::put_successors` meets its contract. The loop's invariant: the first k successors stand behind the place. Assumes nothing.
-use native.Mathlib.Omega.{arith}
-use Rattle.printing.proofs.PutLaws.{put_nothing}
+-- `show_bytes::put_successors` meets its contract: there is room for one successor more, and with it the text is one longer. Assumes nothing.
+use Rattle.std.proofs.Common.{arith}
 use Rattle.show_bytes.proofs.Long.{successors_within}
-use Rattle.show_bytes.proofs.PutContents.{put_successor, put_row}
+use Rattle.show_bytes.proofs.PutContents.{put_successor}
 use Rattle.show_bytes.proofs.put_successors.Goals as goal
 
-pub loop-k-init : goal.loop-k-init
-loop-k-init c = (omega arith, put_nothing)
-
-pub overflow_cast-row : goal.overflow_cast-row
-overflow_cast-row c = omega (arith, c.type_inv.row c.loop-k.k)
-
 pub next_number-place-requires : goal.next_number-place-requires
-next_number-place-requires c = let at = c.loop-k in
-    let more = c.loop-k-test.true in
-    omega (arith, c.requires, at.invariant.1, successors_within c.args.row.now at.k more)
+next_number-place-requires c = let at = c.loop-successor in
+    rw c.from.ensures (omega (arith, c.requires, at.invariant, successors_within c.args.row.now at.successor-index (omega arith)))
 
-pub loop-k-preserved : goal.loop-k-preserved
-loop-k-preserved c =
-    (omega arith, put_successor c.args.row.now c.loop-k.k c.loop-k.invariant.1 c.loop-k-test.true c.next_number-place.ensures)
-
-pub returns : goal.returns
-returns c =
-    put_row c.args.row.now c.loop-k.k c.loop-k.invariant.1 (omega arith)
+pub loop-successor-preserved : goal.loop-successor-preserved
+loop-successor-preserved c = let at = c.loop-successor in
+    put_successor c.args.row.now at.successor-index at.invariant (omega arith) (rw c.from.ensures at c.next_number-place.ensures)

@@ -1,7 +1,5 @@
 -- `walking::pass_edge` meets its contract. Assumes nothing.
-use Prim.Native.Nat.{◌-◌}
-use native.Mathlib.Omega.{arith}
-use lib.ListN.{get_or}
+use Rattle.std.proofs.Common.{◌-◌, arith, get_or}
 use Rattle.walking.proofs.WaitLaws.{ready_most, waits_most}
 use Rattle.walking.proofs.pass_edge.Goals as goal
 

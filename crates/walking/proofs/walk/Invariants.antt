@@ -1,11 +1,6 @@
--- `walking::walk` meets its contract. The loop's invariant: the first k edges were passed. Assumes nothing.
-use Prim.Native.Nat.{◌-◌, ◌≤◌}
-use lib.ListN.{length}
+-- `walking::walk` meets its contract. The loop's invariant: the edges before this one were passed. Assumes nothing.
 use Rattle.walking.specs.Walking.{Walked}
 use Rattle.walking.proofs.walk.Given as goal
 
-abbrev pub invariant-loop-k : goal.invariant-loop-k
-invariant-loop-k l = (l.k ≤ length l.row) × Walked l.row l.parents l.initial.pending l.initial.order l.initial.at.tail l.k l.pending l.order l.at.tail l.at.waiting
-
-abbrev pub decreases-loop-k : goal.decreases-loop-k
-decreases-loop-k l = length l.row - l.k
+abbrev pub invariant-loop-u : goal.invariant-loop-u
+invariant-loop-u l = Walked l.row l.parents l.initial.pending l.initial.order l.initial.at.tail l.u-index l.pending l.order l.at.tail l.at.waiting

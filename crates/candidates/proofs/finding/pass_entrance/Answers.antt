@@ -1,10 +1,6 @@
 -- `candidates::finding::pass_entrance` meets its contract. Assumes nothing.
-use native.Mathlib.Omega.{arith}
 use Rattle.candidates.proofs.ScanLaws.{scan_ruled, scan_found, scan_notable, scan_noted}
 use Rattle.candidates.proofs.finding.pass_entrance.Goals as goal
-
-pub overflow_cast-exits : goal.overflow_cast-exits
-overflow_cast-exits c = omega (arith, c.type_inv.exits c.args.s)
 
 pub returns-then-exits-s : goal.returns-then-exits-s
 returns-then-exits-s c = scan_ruled c.requires.scan c.requires.s_bound c.if-exits-s.true

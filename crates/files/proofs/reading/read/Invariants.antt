@@ -1,4 +1,4 @@
--- What came lies within the slice, and each turn leaves less of it.
+-- What came lies within the slice, and each turn leaves less of it. Assumes nothing.
 use Rattle.std.proofs.Common.{length, ◌-◌, ◌≤◌, ◌≡◌}
 use Rattle.files.proofs.reading.read.Given as goal
 

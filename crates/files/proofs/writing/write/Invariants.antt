@@ -1,9 +1,6 @@
--- Each turn leaves less to write.
-use Rattle.std.proofs.Common.{length, ◌-◌, ◌≤◌}
+-- Each turn leaves less to write. Assumes nothing.
+use Rattle.std.proofs.Common.{length}
 use Rattle.files.proofs.writing.write.Given as goal
 
-abbrev pub invariant-loop-done : goal.invariant-loop-done
-invariant-loop-done g l = l.done ≤ length l.bytes
-
-abbrev pub decreases-loop-done : goal.decreases-loop-done
-decreases-loop-done g l = length l.bytes - l.done
+abbrev pub decreases-loop-rest : goal.decreases-loop-rest
+decreases-loop-rest g l = length l.rest

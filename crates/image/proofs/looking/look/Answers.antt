@@ -1,17 +1,10 @@
--- `image::looking::look` meets its contract: what the header says, and then what the contents that stand in the image are given. Assumes nothing.
-use Rattle.image.proofs.LookLaws.{header_says, looked_by_header, looked_by_contents, looked_sound}
+-- `image::looking::look` meets its contract where the contents that stand in the image are refused. Assumes nothing.
+use Rattle.std.proofs.Common.{refl}
+use Rattle.std.proofs.lemmas.Result.{err_from_is_err_and}
+use Rattle.image.proofs.LookLaws.{looked_by_contents}
 use Rattle.image.proofs.looking.look.Goals as goal
 
-pub returns-then-sizes-ne0 : goal.returns-then-sizes-ne0
-returns-then-sizes-ne0 c = looked_by_header c.if-sizes-ne0.true c.judge_header-sizes.ensures
-
-pub check-number-requires : goal.check-number-requires
-check-number-requires c = (header_says c.judge_header-sizes.ensures c.if-sizes-ne0.false).sized
-
-pub returns-then-number-ne0 : goal.returns-then-number-ne0
-returns-then-number-ne0 c =
-    looked_by_contents c.judge_header-sizes.ensures c.if-sizes-ne0.false c.check-number.ensures c.if-number-ne0.true c.refused.ensures
-
-pub returns : goal.returns
-returns c =
-    looked_sound c.judge_header-sizes.ensures c.if-sizes-ne0.false c.check-number.ensures c.if-number-ne0.false
+pub returns-in_err-check : goal.returns-in_err-check
+returns-in_err-check c =
+    let refused = err_from_is_err_and c.from_residual-in_err-check.result c.from_residual-in_err-check.ensures.1 in
+    rw (refused.1, refused.2) (looked_by_contents c.in_ok-sizes.ensures refl c.in_err-check.ensures c.in_err-check.field-0.0 refl)

@@ -1,31 +1,18 @@
 -- `kept::paths::keep` meets its contract: what is led and passed is the kept path and the dropped vertices, and the path shares what is dropped. Assumes nothing.
-use Prim.Native.Nat.{ℕ, ◌+◌, ◌-◌}
-use mathlib.Core.Path.{◌≡◌}
-use mathlib.Core.List.{List}
-use native.Mathlib.Omega.{arith}
-use lib.ListN.{length}
-use Rattle.table.specs.Table.{Table}
-use Rattle.rule.specs.Lists.{CandidateSet}
-use Rattle.kept.specs.Keeping.{Keepable}
-use Rattle.kept.proofs.KeepLaws.{keep_settleable, keep_siftable, keep_shareable, keep_done}
+use Rattle.std.proofs.Common.{ℕ, ◌+◌, ◌≡◌, ◌∙◌, ap}
+use Rattle.table.specs.Table.{Table, size}
+use Rattle.rule.specs.Next.{no_row}
+use Rattle.kept.proofs.KeepLaws.{keep_shareable, keep_done}
 use Rattle.kept.proofs.paths.keep.Goals as goal
 
--- n + 1, as the code says it
-rowless-is : {C : CandidateSet} {table : Table} {visited : List ℕ} {t : ℕ} {best next out : List ℕ} → Keepable C table visited t best next out
-    → length table.rows.starts ≡ (length table.rows.starts - 1) + 1
-rowless-is p = omega (arith, p.counted.well_formed.some)
-
-pub lead-requires : goal.lead-requires
-lead-requires c = keep_settleable c.requires
-
-pub overflow_cast-rowless : goal.overflow_cast-rowless
-overflow_cast-rowless c = omega (arith, c.requires.counted.well_formed.most_vertices)
-
-pub sift-along-requires : goal.sift-along-requires
-sift-along-requires c = keep_siftable c.requires c.lead.auto.next c.lead.ensures
-
 pub share-requires : goal.share-requires
-share-requires c = keep_shareable c.requires c.lead.auto.next c.lead.ensures (rowless-is c.requires) c.sift-along.ensures
+share-requires c =
+    let counts = ap (λ (t : Table). t.counts) c.table.view_is in
+    let rowless : c.vertices.result + 1 ≡ no_row (size c.args.table.now.rows) = ap (λ (n : ℕ). n + 1) (c.vertices.ensures ∙ ap (λ (t : Table). size t.rows) c.table.view_is) in
+    rw counts (keep_shareable c.requires c.lead.auto.next c.lead.ensures rowless (rw counts at c.sift-along.ensures))
 
 pub returns : goal.returns
-returns c = keep_done c.requires c.lead.auto.next c.lead.ensures (rowless-is c.requires) c.sift-along.ensures c.lead.auto.best c.share.ensures
+returns c =
+    let counts = ap (λ (t : Table). t.counts) c.table.view_is in
+    let rowless : c.vertices.result + 1 ≡ no_row (size c.args.table.now.rows) = ap (λ (n : ℕ). n + 1) (c.vertices.ensures ∙ ap (λ (t : Table). size t.rows) c.table.view_is) in
+    keep_done c.requires c.lead.auto.next c.lead.ensures rowless (rw counts at c.sift-along.ensures) c.lead.auto.best (rw counts at c.share.ensures)

@@ -1,5 +1,5 @@
 -- `search::visits::search` meets its contract. Assumes nothing.
-use mathlib.Core.Path.{sym, ◌∙◌}
+use Rattle.std.proofs.Common.{sym, ◌∙◌}
 use Rattle.search.proofs.UndoLaws.{undone}
 use Rattle.search.proofs.visits.search.Goals as goal
 

@@ -3,7 +3,4 @@ use Rattle.search.specs.Steps.{Lowered}
 use Rattle.search.proofs.visits.undo.Given as goal
 
 abbrev pub invariant-loop-k : goal.invariant-loop-k
-invariant-loop-k l = Lowered l.starts l.targets l.pending l.order l.k
-
-abbrev pub decreases-loop-k : goal.decreases-loop-k
-decreases-loop-k l = l.k
+invariant-loop-k l = Lowered l.rows.starts l.rows.targets l.pending l.order l.k

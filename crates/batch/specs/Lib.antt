@@ -1,2 +1,0 @@
--- The definitions of `batch`. Assumes nothing.
-pub mod Buffer

@@ -1,3 +1,0 @@
--- The laws of `in_place`. Assumes nothing.
-pub mod NumberLaws
-pub mod CheckLaws

@@ -1,0 +1,14 @@
+-- `list_bytes::answer` meets its contract: the rows of an accepted image stand at the fronts of the arrays. Assumes nothing.
+use Rattle.std.proofs.Common.{refl, ap, ◌∙◌}
+use Rattle.table.specs.Table.{Table}
+use Rattle.taking.proofs.TakenLaws.{taken_table}
+use Rattle.list_bytes.proofs.Ready.{image_listed}
+use Rattle.list_bytes.proofs.answer.Goals as goal
+
+pub list_table-requires : goal.list_table-requires
+list_table-requires c = rw c.rows.ensures (taken_table c.in-Ok.ensures.taken_in refl).fronts_sound.well_formed
+
+pub returns-in-Ok-clause-list_answer : goal.returns-in-Ok-clause-list_answer
+returns-in-Ok-clause-list_answer c =
+    let same = c.rows.ensures ∙ ap (λ (table : Table). table.rows) (taken_table c.in-Ok.ensures.taken_in refl).fronts_same in
+    image_listed c.in-Ok.ensures.taken_in.looked refl same refl c.list_table.ensures
