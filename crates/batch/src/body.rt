@@ -1,4 +1,6 @@
 // The body of a case, read from its front.
+ghost use Rattle.std.specs.Prelude.{◌≡◌};
+
 use layout::{Header, Number};
 use std::io;
 
@@ -21,7 +23,9 @@ pub struct Body<'a> {
 
 impl<'a> Body<'a> {
     // A whole body.
-    pub fn new(bytes: &'a [u8]) -> Body<'a> {
+    pub fn new(bytes: &'a [u8]) -> Body<'a>
+        ensures { result.rest.now ≡ bytes.now }
+    {
         Body { rest: bytes }
     }
 

@@ -4,6 +4,8 @@
 // that does not fit its operation ends the run with the line `bad case`.
 #![tactic(auto)]
 
+ghost use Rattle.std.specs.Prelude.{◌≤◌, length, IfOk, IfSome};
+
 mod body;
 mod folds;
 mod images;
@@ -30,7 +32,9 @@ struct Case<'a> {
 }
 
 // Reads a case, or finds the input at its end.
-fn next_case<'a>(rt: &HostRuntime, bytes: &'a mut [u8]) -> Result<Option<Case<'a>>, BadCase> {
+fn next_case<'a>(rt: &HostRuntime, bytes: &'a mut [u8]) -> Result<Option<Case<'a>>, BadCase>
+    ensures { IfOk result (λ found. IfSome found (λ case. length case.body.rest.now ≤ length bytes.old)) }
+{
     let mut head = [0u8; 5];
     let came = files::read(&mut rt.stdin(), &mut head, 5)?;
     if came == 0 {

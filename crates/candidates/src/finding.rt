@@ -8,7 +8,7 @@ ghost use Rattle.rule.specs.Way.{candidates_of};
 ghost use Rattle.candidates.specs.Candidates.{entrances, Findable, FindDone};
 ghost use Rattle.candidates.specs.Steps.{RuledOut, ExitSettable, ExitSet, Notable, Noted, Scan};
 
-use parents::count_parents;
+use parents::{copy, count_parents};
 use rule::Rings;
 use search::{Exit, search};
 use skipping::admit;
@@ -97,7 +97,7 @@ pub fn find(
     ensures { FindDone (candidates_of rings) rows.now parents.new pending.new order.new exits.new result }
 {
     count_parents(rows.targets, parents);
-    pending.copy_from_slice(parents);
+    copy(parents, pending);
     exits.fill(0);
     for s in 0..rows.vertices() {
         pass_entrance(rings, rows, parents, pending, order, exits, s);

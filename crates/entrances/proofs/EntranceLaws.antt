@@ -1,5 +1,7 @@
 -- One turn of the loop: the entrance is passed, the budget is spent, or the candidate is searched and folded. For every lawful way. Assumes nothing.
-use Rattle.std.proofs.Common.{Some, None, ℕ, ◌+◌, ◌≤◌, ◌<◌, ◌≡◌, ◌∙◌, ◌⊎◌, List, arith, length, get_or, take}
+use Rattle.std.proofs.Common.{Some, None, ℕ, zero, suc, ◌+◌, ◌≤◌, ◌<◌, ◌≡◌, ◌∙◌, ◌⊎◌, inr, List, arith, length, get_or, take}
+use native.Mathlib.Numerals.{add-one}
+use native.Mathlib.Decide.{ℕ_discrete}
 use Rattle.table.specs.Table.{Table, size, edges, SoundTable}
 use Rattle.bubble.proofs.Unique.{exit_unique}
 use Rattle.search.specs.declared.Exit.{Exit}
@@ -104,3 +106,18 @@ module _ {way : Way} {table : Table} {exits next out : List ℕ} {budget s folde
           passed = omega (arith, vertex);
           turns = turns_more laws ok turning.kind turning.turns done.candidate vertex done.order done.kept here l;
         }
+
+-- where the budget is spent, the entrances from s on change nothing
+module _ {way : Way} {table : Table} {exits next out : List ℕ} {budget s folded : ℕ} (turning : Turning way table exits next out budget s folded) (spent : budget ≤ folded) where
+  turning_to : (r : ℕ) → s ≤ r → r ≤ length exits → Turning way table exits next out budget r folded
+  turning_to zero from to = let q : s ≡ 0 = omega arith in rw q at turning
+  turning_to (suc r) from to =
+      elim (ℕ_discrete s (suc r)) [
+        | yes q ↦ rw q at turning
+        | no n ↦
+            let before = turning_to r (omega arith) (omega arith) in
+            rw (add-one r) at (turning_on before (omega arith) (inr spent))
+      ]
+
+  pub turning_spent : Turning way table exits next out budget (size table.rows) folded
+  turning_spent = turning_to (size table.rows) turning.passed (omega (arith, turning.candidates.each))

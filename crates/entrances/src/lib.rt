@@ -55,6 +55,7 @@ fn fold_at(
 }
 
 // Goes over all entrances; answers how many are folded. A vertex whose exit is n is the entrance of no candidate.
+#[tactic(auto, using(crate::proofs::EntranceLaws::turning_spent))]
 pub fn fold_all(
     mode: Mode,
     table: &Table,
@@ -81,7 +82,10 @@ pub fn fold_all(
 {
     let mut folded = 0;
     for (s, exit) in exits.iter().enumerate() {
-        if (*exit as usize) < exits.len() && folded < budget {
+        if folded >= budget {
+            return folded;
+        }
+        if (*exit as usize) < exits.len() {
             fold_at(mode, table, parents, pending, order, best, next, out, s);
             folded += 1;
         }

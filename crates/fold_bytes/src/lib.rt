@@ -144,7 +144,7 @@ pub fn answer(
 {
     let mut arrays = Arrays::new();
     let mut next = Arrays::new();
-    match taking::take_in(image, &mut arrays) {
+    match arrays.take_in(image) {
         Ok(sizes) => fold_contents(
             rings,
             sizes.version,

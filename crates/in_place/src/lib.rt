@@ -7,7 +7,7 @@ ghost use Rattle.table.specs.Refusals.{numbered};
 ghost use Rattle.in_place.specs.InPlace.{Sized, contents_in, placed_demands};
 
 use layout::{Header, Spelled, none_zero};
-use table::{Numbers, Refusal, all_below, rows_rise, starts_fit, sum_fits};
+use table::{Numbers, Refusal, all_below, numbers_sum_fits, rows_rise, starts_fit};
 
 // 3, 4, 5, 7, 20, the first that is given: the numbers are sound contents, or why not.
 fn check_numbers<S: Numbers, T: Numbers, C: Numbers, L: Numbers>(
@@ -34,7 +34,7 @@ fn check_numbers<S: Numbers, T: Numbers, C: Numbers, L: Numbers>(
     if !rows_rise(starts, targets) {
         return Err(Refusal::Row);
     }
-    if !sum_fits(counts) {
+    if !numbers_sum_fits(counts) {
         return Err(Refusal::Reads);
     }
     if !none_zero(lengths) {

@@ -59,7 +59,7 @@ pub fn answer(image: &[u8], s: u32, t: u32, out: &mut [u8; LONGEST]) -> Answer
     ensures prefix_len { IsPrefixLen result.length out.new }
 {
     let mut arrays = Arrays::new();
-    match taking::take_in(image, &mut arrays) {
+    match arrays.take_in(image) {
         Ok(sizes) => judge_table(&arrays.rows(sizes), s, t, out),
         Err(refusal) => printing::refusal(out, refusal),
     }

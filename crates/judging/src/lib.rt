@@ -8,7 +8,7 @@ ghost use Rattle.vertices.specs.Vertices.{Words, Numbers};
 ghost use Rattle.judging.specs.Judging.{Judged, JudgeDone, answer_of, judgement_of};
 ghost use Rattle.judging.specs.Steps.{AllAdded, JudgeReady};
 
-use parents::count_parents;
+use parents::{copy, count_parents};
 use search::search;
 use table::{Refusal, Rows, VERTEX_LIMIT};
 use vertices::{SET_WORDS, put, size};
@@ -53,7 +53,7 @@ fn judge_with(
     ensures { Judged rows.now s t (answer_of result) }
 {
     count_parents(rows.targets, parents);
-    pending.copy_from_slice(parents);
+    copy(parents, pending);
     let exit = search(rows, parents, pending, order, s)?;
     if exit.vertex != t {
         return None;

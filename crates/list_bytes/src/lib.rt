@@ -59,7 +59,7 @@ pub fn answer(image: &[u8], out: &mut [u8; LONGEST]) -> Answer
 {
     let mut arrays = Arrays::new();
     let mut pairs = [0u32; 2 * VERTEX_LIMIT];
-    match taking::take_in(image, &mut arrays) {
+    match arrays.take_in(image) {
         Ok(sizes) => Answer {
             refusal: None,
             length: list_table(&arrays.rows(sizes), &mut pairs, out),

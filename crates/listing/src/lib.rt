@@ -7,7 +7,7 @@ ghost use Rattle.bubble.specs.Superbubble.{Superbubble};
 ghost use Rattle.listing.specs.Listing.{ListedAt, ListDone, found_of};
 ghost use Rattle.listing.specs.Steps.{Line, ListReady};
 
-use parents::count_parents;
+use parents::{copy, count_parents};
 use search::{Exit, search};
 use table::{Refusal, Rows, VERTEX_LIMIT};
 
@@ -38,7 +38,7 @@ fn list_with(
     ensures { ListedAt (Superbubble (edges rows.now)) out.old out.new result }
 {
     count_parents(rows.targets, parents);
-    pending.copy_from_slice(parents);
+    copy(parents, pending);
     let mut found = 0;
     for s in 0..rows.vertices() {
         let exit = search(rows, parents, pending, order, s as u32);

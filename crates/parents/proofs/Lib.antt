@@ -2,3 +2,4 @@
 pub mod OccurrenceLaws
 pub mod PlaceLaws
 pub mod TallyLaws
+pub mod CopyLaws

@@ -1,7 +1,7 @@
 // How many parents each vertex has: how often it stands among the targets.
 #![tactic(auto)]
 
-ghost use Rattle.std.specs.Prelude.{◌≤◌, length};
+ghost use Rattle.std.specs.Prelude.{◌≤◌, ◌≡◌, length};
 ghost use Rattle.table.specs.Limits.{edge_limit};
 ghost use Rattle.table.specs.Table.{Below};
 ghost use Rattle.parents.specs.Parents.{Parents, Tallying, Tallied};
@@ -24,4 +24,14 @@ pub fn count_parents(targets: &[u32], parents: &mut [u32])
 {
     parents.fill(0);
     tally(targets, parents);
+}
+
+// Copies the counts, so that one copy is read and the other worked on.
+pub fn copy(counts: &[u32], out: &mut [u32])
+    requires { length out.old ≡ length counts.now }
+    ensures { out.new ≡ counts.now }
+{
+    for v in 0..counts.len() {
+        out[v] = counts[v];
+    }
 }

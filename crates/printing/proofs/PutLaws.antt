@@ -1,8 +1,6 @@
 -- Bytes put one behind the other: words to a line, lines to a text, a text at the front of a buffer. Assumes nothing.
-use Rattle.std.proofs.Common.{ℕ, ◌+◌, ◌≤◌, ◌<◌, ◌≡◌, refl, sym, ap, ◌∙◌, List, [], ◌∷◌, ◌++◌, append_assoc, append-nil, arith, add-one, length, take, drop, set, length-set}
-use Rattle.std.proofs.Common.{length-append, length-take, length-drop, take-append-drop, take-suc-set, drop-set-lt, drop-drop, length-take-le, take_at, drop_at}
-use Rattle.std.proofs.lemmas.Slice.{take-put_mid, drop-put_mid}
-use borrow.Rule.Slice.PartMut.{put_mid}
+use Rattle.std.proofs.Common.{ℕ, ◌+◌, ◌≤◌, ◌<◌, ◌≡◌, refl, sym, ap, ◌∙◌, List, [], ◌∷◌, ◌++◌, append_assoc, append-nil, arith, add-one, length, get_or, take, drop, set, length-set}
+use Rattle.std.proofs.Common.{length-append, take-append-drop, take_all, take-suc, take-suc-set, drop-set-lt, drop-drop, length-take-le, take_at, drop_at}
 use Rattle.io.specs.Counts.{IsPrefixLen}
 use Rattle.texts.specs.Text.{Line, following, begun, line, text}
 use Rattle.texts.proofs.LineLaws.{begun_first, begun_append, text_next}
@@ -43,18 +41,22 @@ put_byte buffer at byte h =
       as_long = length-set buffer at byte;
     }
 
--- a word that is copied over a part of the buffer
-pub put_part : (buffer : List ℕ) (at k : ℕ) {word part : List ℕ} → part ≡ word → k ≡ length word → at + k ≤ length buffer
-    → Put buffer at word (put_mid at k buffer part) (at + length word)
-put_part buffer at k {word} {part} same long room =
-    let whole : length part ≡ k = ap length same ∙ sym long in
-    put_same same
-    (record {
-      ends = omega (arith, long, whole);
-      front = take-put_mid at k buffer part (at + length word) (omega (arith, long, whole)) (omega arith);
-      rest = drop-put_mid at k buffer part (at + length word) (omega (arith, long)) (omega arith) whole;
-      as_long = simp (length-append, length-take, length-drop) (omega arith);
-    })
+-- no byte of a word
+pub put_none : {buffer : List ℕ} {at : ℕ} → Put buffer at [] buffer (at + 0)
+put_none {buffer} {at} = let same : at + 0 ≡ at = omega arith in rw same put_nothing
+
+-- one byte more of a word
+pub put_more : (word : List ℕ) (k : ℕ) {a b : List ℕ} {at : ℕ} → k < length word → at + k < length b → Put a at (take k word) b (at + k)
+    → Put a at (take (k + 1) word) (set b (at + k) (get_or word k 0)) (at + (k + 1))
+put_more word k {a} {b} {at} h room put =
+    let more = put_then put (put_byte b (at + k) (get_or word k 0) room) in
+    let front : take k word ++ get_or word k 0 ∷ [] ≡ take (k + 1) word = rw (add-one k) (sym (take-suc word k 0 h)) in
+    let end : at + (k + 1) ≡ at + k + 1 = omega arith in
+    rw end (put_same front more)
+
+-- all bytes of a word
+pub put_all : (word : List ℕ) (k : ℕ) {a b : List ℕ} {at : ℕ} → k ≡ length word → Put a at (take k word) b (at + k) → Put a at word b (at + length word)
+put_all word k e put = rw e at (put_same (take_all k word (omega (arith, e))) put)
 
 -- the first word of a line
 pub put_first : {a b word : List ℕ} {i j : ℕ} → Put a i word b j → Put a i (begun (record { first = word; others = [] })) b j

@@ -18,12 +18,14 @@ pub struct Answer {
     pub length: usize,
 }
 
-// Puts the bytes of a word.
+// Puts the bytes of a word. Words are short, so they are put one by one, with no call of `copy_from_slice` for each.
 pub fn word(out: &mut [u8], at: usize, bytes: &[u8]) -> usize
     requires { at + length bytes.now ≤ length out.old }
     ensures { Put out.old at bytes.now out.new result }
 {
-    out[at..at + bytes.len()].copy_from_slice(bytes);
+    for (k, byte) in bytes.iter().enumerate() {
+        out[at + k] = *byte;
+    }
     at + bytes.len()
 }
 

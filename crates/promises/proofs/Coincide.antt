@@ -75,24 +75,24 @@ use Rattle.fold_bytes.specs.Image.{Delivered, fold_of, FoldAnswer}
 use Rattle.promises.proofs.AnyRun.{answers_determined}
 use Rattle.promises.proofs.Runs.{fold_of_lawful}
 
--- Where the contract is an equation: `table::row`, `table::stated_limits`, `layout::Header::length`, `lengths`, `largest` and `put`, all that `layout` reads and puts of
+-- Where the contract is an equation: `table::row` and `Rows::row`, `table::stated_limits`, `layout::Header::length`, `lengths`, `largest` and `put`, all that `layout` reads and puts of
 -- bytes, and `parents::copy`.
 pub equation_coincides : {A : Type 0} {stated result₁ result₂ : A} → result₁ ≡ stated → result₂ ≡ stated → result₁ ≡ result₂
 equation_coincides a b = a ∙ sym b
 
--- `table::check`
+-- `Rows::check` of `table`
 pub check_coincides : (rows : Rows) (r₁ r₂ : ℕ) → Verdict (table_demands rows) r₁ → Verdict (table_demands rows) r₂ → r₁ ≡ r₂
 check_coincides rows = verdict_unique (table_demands rows)
 
--- `table::check_counted`
+-- `Table::check` of `table`
 pub check_counted_coincides : (table : Table) (r₁ r₂ : ℕ) → Verdict (counted_demands table) r₁ → Verdict (counted_demands table) r₂ → r₁ ≡ r₂
 check_counted_coincides table = verdict_unique (counted_demands table)
 
--- `table::sum_fits`
+-- `table::sum_fits` and `numbers_sum_fits`
 pub sum_fits_coincides : (counts : List ℕ) (r₁ r₂ : Bool) → Says r₁ (count_sum counts ≤ read_limit) → Says r₂ (count_sum counts ≤ read_limit) → r₁ ≡ r₂
 sum_fits_coincides counts = says_unique (count_sum counts ≤ read_limit)
 
--- `table::rises`
+-- `table::rises` and `numbers_rise`
 pub rises_coincides : (list : List ℕ) (r₁ r₂ : Bool) → Says r₁ (Rises list) → Says r₂ (Rises list) → r₁ ≡ r₂
 rises_coincides list = says_unique (Rises list)
 
@@ -127,7 +127,7 @@ put_coincides = put_determined
 pub size_coincides : {words : List ℕ} {r₁ r₂ : ℕ} → Size words r₁ → Size words r₂ → r₁ ≡ r₂
 size_coincides a b = a.sum ∙ sym b.sum
 
--- `parents::clear`
+-- the counts filled with zeros by `parents::count_parents`
 pub clear_coincides : {counts counts₁ counts₂ : List ℕ} → Zeros counts counts₁ → Zeros counts counts₂ → counts₁ ≡ counts₂
 clear_coincides = zeros_same
 

@@ -31,6 +31,9 @@ fn visit(rows: &Rows, parents: &[u32], pending: &mut [u32], order: &mut [u32], s
     ensures { Ran rows.now.starts rows.now.targets pending.new order.old order.new s
         result.exit result.visited }
 {
+    // The two slices are taken out of the table once, and not again at each row.
+    let starts = rows.starts;
+    let targets = rows.targets;
     order[0] = s;
     let mut head = 0;
     let mut front = Front {
@@ -40,7 +43,7 @@ fn visit(rows: &Rows, parents: &[u32], pending: &mut [u32], order: &mut [u32], s
     // A while, since each row that is walked makes the queue longer.
     while head < front.tail {
         let v = order[head];
-        let row = rows.row(v as usize);
+        let row = table::row(starts, targets, v as usize);
         if holds(row, s) {
             return Run {
                 exit: None,

@@ -94,7 +94,7 @@ pub fn answer(image: &[u8], out: &mut [u8; LONGEST]) -> Answer
     ensures prefix_len { IsPrefixLen result.length out.new }
 {
     let mut arrays = Arrays::new();
-    match taking::take_in(image, &mut arrays) {
+    match arrays.take_in(image) {
         Ok(sizes) => Answer {
             refusal: None,
             length: put_contents(out, sizes.version, &arrays.contents(sizes)),

@@ -25,9 +25,11 @@ pub fn admit(rings: Rings, rows: &Rows, s: u32, exit: Option<Exit>) -> Option<Ex
     requires { Found rows.now.starts rows.now.targets s exit }
     ensures { Admitted (edges rows.now) s rings exit result }
 {
-    match (rings, exit) {
-        (Rings::Taken, Some(found)) if found.visited >= 2 && leads_back(rows, s, found.vertex) =>
-            None,
+    let Some(found) = exit else {
+        return None;
+    };
+    match rings {
+        Rings::Taken if found.visited >= 2 && leads_back(rows, s, found.vertex) => None,
         _ => exit,
     }
 }

@@ -1,10 +1,12 @@
 // A table with the reads on each vertex, and what is asked of it: 1 to 7.
-ghost use Rattle.std.specs.Prelude.{length};
-ghost use Rattle.table.specs.Verdict.{Verdict};
+ghost use Rattle.std.specs.Prelude.{◌≤◌, length};
+ghost use Rattle.table.specs.Verdict.{Says, Verdict};
+ghost use Rattle.table.specs.Limits.{read_limit};
+ghost use Rattle.table.specs.Table.{count_sum};
 ghost use Rattle.table.specs.Numbers.{counted_demands};
 ghost use Rattle.table.specs.Refusals.{numbered};
 
-use crate::numbers::sum_fits;
+use crate::numbers::numbers_sum_fits;
 use crate::refusal::Refusal;
 use crate::rows::Rows;
 use std::marker::Model;
@@ -38,4 +40,11 @@ impl<'a> Table<'a> {
         }
         Ok(())
     }
+}
+
+// Whether the exact sum of the counts is at most 1,099,511,627,775.
+pub fn sum_fits(counts: &[u64]) -> bool
+    ensures { Says result (count_sum counts.now ≤ read_limit) }
+{
+    numbers_sum_fits(counts)
 }

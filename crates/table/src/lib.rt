@@ -7,8 +7,10 @@ mod numbers;
 mod refusal;
 mod rows;
 
-pub use counted::Table;
+pub use counted::{Table, sum_fits};
 pub use limits::{EDGE_LIMIT, Limits, READ_LIMIT, START_LIMIT, VERTEX_LIMIT, stated_limits};
-pub use numbers::{Numbers, Wide, all_below, rises, rows_rise, starts_fit, sum_fits};
+pub use numbers::{
+    Numbers, Wide, all_below, numbers_rise, numbers_sum_fits, rows_rise, starts_fit,
+};
 pub use refusal::Refusal;
-pub use rows::{Rows, holds};
+pub use rows::{Rows, holds, rises, row};

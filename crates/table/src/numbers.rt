@@ -121,8 +121,8 @@ pub fn all_below<N: Numbers>(numbers: N, n: usize) -> bool
     true
 }
 
-// The row check: whether a row rises strictly.
-pub fn rises<N: Numbers>(row: N) -> bool
+// The row check wherever a row stands: whether it rises strictly.
+pub fn numbers_rise<N: Numbers>(row: N) -> bool
     ensures { Says result (Rises (N.list row)) }
 {
     for k in 1..row.count() {
@@ -142,16 +142,16 @@ pub fn rows_rise<S: Numbers, T: Numbers>(starts: S, targets: T) -> bool
     for v in 1..starts.count() {
         let from = starts.at(v - 1) as usize;
         let to = starts.at(v) as usize;
-        if !rises(targets.part(from, to)) {
+        if !numbers_rise(targets.part(from, to)) {
             return false;
         }
     }
     true
 }
 
-// Whether the exact sum of the counts is at most 1,099,511,627,775. A count may be any 64-bit number.
+// Whether the exact sum of the counts is at most 1,099,511,627,775, wherever they stand. A count may be any 64-bit number.
 #[tactic(auto, using(crate::proofs::SumLaws::passed_more, crate::proofs::SumLaws::passed_least))]
-pub fn sum_fits<N: Numbers>(counts: N) -> bool
+pub fn numbers_sum_fits<N: Numbers>(counts: N) -> bool
     ensures { Says result (count_sum (N.list counts) ≤ read_limit) }
 {
     let mut spare = READ_LIMIT;

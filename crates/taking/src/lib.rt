@@ -59,6 +59,20 @@ impl Arrays {
             lengths: &self.lengths[..Header::lengths(sizes.version, sizes.vertices)],
         }
     }
+
+    // Takes an image in.
+    pub fn take_in(&mut self, image: &[u8]) -> Result<Sizes, Refusal>
+        ensures taken_in { TakenIn image.now (held_by self.old) (held_by self.new) (seen_of result) }
+        ensures vertices_le_vertex_limit { ((seen_of result).vertices ≤ vertex_limit) × ((seen_of result).edges ≤ edge_limit) }
+    {
+        take_in(
+            image,
+            &mut self.starts,
+            &mut self.targets,
+            &mut self.counts,
+            &mut self.lengths,
+        )
+    }
 }
 
 // Looks at an image, and loads its contents into the fronts of four slices with room for any: exactly n + 1, m and n numbers of them, and as many lengths as it has.
@@ -105,16 +119,26 @@ fn take_with(
     Ok(sizes)
 }
 
-// The same with arrays, which have that room.
-pub fn take_in(image: &[u8], arrays: &mut Arrays) -> Result<Sizes, Refusal>
-    ensures taken_in { TakenIn image.now (held_by arrays.old) (held_by arrays.new) (seen_of result) }
+// The same with four arrays, which have that room, wherever they stand.
+pub fn take_in(
+    image: &[u8],
+    starts: &mut [u32; START_LIMIT],
+    targets: &mut [u32; EDGE_LIMIT],
+    counts: &mut [u64; VERTEX_LIMIT],
+    lengths: &mut [u16; VERTEX_LIMIT],
+) -> Result<Sizes, Refusal>
+    ensures taken_in { TakenIn
+        image.now
+        (record {
+          table = record { rows = record { starts = starts.old; targets = targets.old }; counts = counts.old };
+          lengths = lengths.old;
+        })
+        (record {
+          table = record { rows = record { starts = starts.new; targets = targets.new }; counts = counts.new };
+          lengths = lengths.new;
+        })
+        (seen_of result) }
     ensures vertices_le_vertex_limit { ((seen_of result).vertices ≤ vertex_limit) × ((seen_of result).edges ≤ edge_limit) }
 {
-    take_with(
-        image,
-        &mut arrays.starts,
-        &mut arrays.targets,
-        &mut arrays.counts,
-        &mut arrays.lengths,
-    )
+    take_with(image, starts, targets, counts, lengths)
 }

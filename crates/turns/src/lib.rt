@@ -2,6 +2,7 @@
 // each row says one number a vertex, as `staying` takes it: n, which is no vertex's number, where the whole row stays.
 #![tactic(auto)]
 
+ghost use Rattle.std.specs.Prelude.{◌≡◌, length};
 ghost use Rattle.rule.specs.Way.{the_fold};
 ghost use Rattle.turns.specs.Turns.{FoldReady, TurnDone};
 
@@ -16,6 +17,16 @@ pub struct Turned {
     pub folded: usize,
 }
 
+// Copies the counts. They come from the caller's slices, of which `copy_from_slice` needs `memmove` of the C library, and the archive for C programs goes without it.
+fn copy_counts(counts: &[u64], out: &mut [u64])
+    requires { length out.old ≡ length counts.now }
+    ensures { out.new ≡ counts.now }
+{
+    for v in 0..counts.len() {
+        out[v] = counts[v];
+    }
+}
+
 // Folds the first candidates of a table, as many as the budget or all if fewer: `next` takes one number a vertex that says what stays of its row, `out` its
 // new count. Before the first entrance each row is whole and each count as it was.
 pub fn turn(mode: Mode, table: &Table, budget: usize, next: &mut [u32], out: &mut [u64]) -> Turned
@@ -24,7 +35,7 @@ pub fn turn(mode: Mode, table: &Table, budget: usize, next: &mut [u32], out: &mu
 {
     let n = table.rows.vertices();
     next.fill(n as u32);
-    out.copy_from_slice(table.counts);
+    copy_counts(table.counts, out);
     let mut parents = [0u32; VERTEX_LIMIT];
     let parents = &mut parents[..n];
     let mut pending = [0u32; VERTEX_LIMIT];
@@ -32,8 +43,9 @@ pub fn turn(mode: Mode, table: &Table, budget: usize, next: &mut [u32], out: &mu
     let mut exits = [0u32; VERTEX_LIMIT];
     let exits = &mut exits[..n];
     let mut order = [0u32; VERTEX_LIMIT];
-    let found = candidates::find(mode.rings, &table.rows, parents, pending, &mut order, exits);
+    // With the others, and not behind the search: an array that is made between two calls is cleared twice.
     let mut best = [0u64; VERTEX_LIMIT];
+    let found = candidates::find(mode.rings, &table.rows, parents, pending, &mut order, exits);
     let folded = fold_all(
         mode, table, parents, pending, &mut order, exits, &mut best, next, out, budget,
     );

@@ -1,7 +1,7 @@
 // The words that a program is started with.
 #![tactic(auto)]
 
-ghost use Rattle.std.specs.Prelude.{◌+◌, ◌-◌, ◌*◌, ◌≤◌, min, ◌≡◌};
+ghost use Rattle.std.specs.Prelude.{◌+◌, ◌-◌, ◌*◌, ◌≤◌, length, min, ◌≡◌};
 ghost use Rattle.table.specs.Verdict.{Says as TableSays};
 ghost use Rattle.words.specs.Decimal.{Says};
 
@@ -51,7 +51,9 @@ pub fn same(word: &[u8], text: &[u8]) -> bool
 }
 
 // Takes word i into the room; nothing where there is none, or where it is longer.
-fn take<'a>(env: &impl Env, i: usize, room: &'a mut [u8]) -> &'a [u8] {
+fn take<'a>(env: &impl Env, i: usize, room: &'a mut [u8]) -> &'a [u8]
+    ensures { length result.now ≤ length room.old }
+{
     match env.arg(i, room) {
         Ok(count) => &room[..count],
         Err(_) => &[],

@@ -13,5 +13,5 @@ fold_all-folded-requires-clause-turning c =
       kind = c.requires.kind;
       candidates = (rw rows at c.find-found.ensures).candidates;
       passed = omega arith;
-      turns = turns_none c.find-found.new.exits c.args.budget whole (c.copy_from_slice.ensures.after ∙ ap (λ (t : Table). t.counts) c.table.view_is);
+      turns = turns_none c.find-found.new.exits c.args.budget whole (c.copy_counts.ensures ∙ ap (λ (t : Table). t.counts) c.table.view_is);
     }

@@ -1,6 +1,6 @@
 -- `search::visits::visit` meets its contract: what holds before a visit holds before the next, and at each end. Assumes nothing.
-use Rattle.std.proofs.Common.{arith, rules, ◌≡◌, ◌≢◌, ℕ, List, Option, length, set, refl, ◌∙◌, length-set}
-use Rattle.table.specs.Table.{In}
+use Rattle.std.proofs.Common.{arith, rules, ap, ◌≡◌, ◌≢◌, ℕ, List, Option, length, set, refl, ◌∙◌, length-set}
+use Rattle.table.specs.Table.{In, Rows}
 use Rattle.table.proofs.RowLaws.{row_lies}
 use Rattle.search.specs.declared.Exit.{Exit}
 use Rattle.search.specs.Search.{Searched}
@@ -9,6 +9,13 @@ use Rattle.search.proofs.Going.{Going, going_none, tail_most, going_lowered, no_
 use Rattle.search.proofs.TurnLaws.{turn_walkable, turn_more}
 use Rattle.search.proofs.EndLaws.{end_found, end_none}
 use Rattle.search.proofs.visits.visit.Goals as goal
+
+-- the two slices that are taken out of the table
+starts_are : {a b : Rows} → a ≡ b → a.starts ≡ b.starts
+starts_are e = ap (λ (t : Rows). t.starts) e
+
+targets_are : {a b : Rows} → a ≡ b → a.targets ≡ b.targets
+targets_are e = ap (λ (t : Rows). t.targets) e
 
 -- what an answer leaves
 ended : {starts targets parents pending order order' : List ℕ} {s head tail waiting : ℕ} (exit : Option Exit) →
@@ -26,36 +33,38 @@ pub bounds-order-head : goal.bounds-order-head
 bounds-order-head c = let g = c.loop-head.invariant.going in omega (arith, tail_most g, g.room)
 
 pub row-row-requires : goal.row-row-requires
-row-row-requires c = let g = c.loop-head.invariant.going in row_lies _ _ g.well_formed.starts_fit _ (g.below c.loop-head.head (omega arith))
+row-row-requires c = let g = c.loop-head.invariant.going in
+    rw (starts_are c.rows.view_is, targets_are c.rows.view_is) (row_lies _ _ g.well_formed.starts_fit _ (g.below c.loop-head.head (omega arith)))
 
 pub returns-then-holds : goal.returns-then-holds
 returns-then-holds c = let g = c.loop-head.invariant.going in
     let back : In c.args.s c.row-row.result.now = rw c.if-holds.true at c.holds.ensures in
-    ended _ c.loop-head.invariant.same g (λ t b. no_back g b.bubbloid (omega arith) (rw c.row-row.ensures at back))
+    ended _ c.loop-head.invariant.same g (λ t b. no_back g b.bubbloid (omega arith) (rw (rw (starts_are c.rows.view_is, targets_are c.rows.view_is) at c.row-row.ensures) at back))
 
 pub returns-then-alone : goal.returns-then-alone
 returns-then-alone c = let g = c.loop-head.invariant.going in
     let forward : In c.args.s c.row-row.result.now → ⊥ = rw c.if-holds.false at c.holds.ensures in
     let lone = rw c.if-alone.true at c.alone.ensures in
-    ended _ c.loop-head.invariant.same g (end_found g lone (rw c.row-row.ensures at forward))
+    ended _ c.loop-head.invariant.same g (end_found g lone (rw (rw (starts_are c.rows.view_is, targets_are c.rows.view_is) at c.row-row.ensures) at forward))
 
 pub returns-then-is_empty : goal.returns-then-is_empty
 returns-then-is_empty c = let g = c.loop-head.invariant.going in
     let none : length c.row-row.result.now ≡ 0 = search rules in
     let still = rw c.if-alone.false at c.alone.ensures in
-    ended _ c.loop-head.invariant.same g (λ t b. some_child g b.bubbloid (omega arith) still (rw c.row-row.ensures at none))
+    ended _ c.loop-head.invariant.same g (λ t b. some_child g b.bubbloid (omega arith) still (rw (rw (starts_are c.rows.view_is, targets_are c.rows.view_is) at c.row-row.ensures) at none))
 
 pub walk-front-requires : goal.walk-front-requires
 walk-front-requires c = let g = c.loop-head.invariant.going in
     let forward : In c.args.s c.row-row.result.now → ⊥ = rw c.if-holds.false at c.holds.ensures in
-    rw c.row-row.ensures (turn_walkable g (omega arith) (rw c.row-row.ensures at forward))
+    let row_is = rw (starts_are c.rows.view_is, targets_are c.rows.view_is) at c.row-row.ensures in
+    rw row_is (turn_walkable g (omega arith) (rw row_is at forward))
 
 pub loop-head-smaller : goal.loop-head-smaller
 loop-head-smaller c = omega (arith, tail_most c.loop-head.invariant.going)
 
 pub loop-head-preserved : goal.loop-head-preserved
 loop-head-preserved c = let g = c.loop-head.invariant.going in
-    let row_is = c.row-row.ensures in
+    let row_is = rw (starts_are c.rows.view_is, targets_are c.rows.view_is) at c.row-row.ensures in
     let forward : In c.args.s c.row-row.result.now → ⊥ = rw c.if-holds.false at c.holds.ensures in
     let some : length c.row-row.result.now ≢ 0 = search rules in
     let still = rw c.if-alone.false at c.alone.ensures in

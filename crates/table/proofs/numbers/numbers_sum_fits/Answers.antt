@@ -1,7 +1,7 @@
--- `table::numbers::sum_fits` meets its contract: a count above what is spare takes the sum past the limit. Assumes nothing.
+-- `table::numbers::numbers_sum_fits` meets its contract: a count above what is spare takes the sum past the limit. Assumes nothing.
 use Rattle.std.proofs.Common.{arith, rules, ◌+◌}
 use Rattle.table.proofs.SumLaws.{passed_more, passed_least}
-use Rattle.table.proofs.numbers.sum_fits.Goals as goal
+use Rattle.table.proofs.numbers.numbers_sum_fits.Goals as goal
 
 pub returns-then-count-spare : goal.returns-then-count-spare
 returns-then-count-spare g c = λ fits.
